@@ -1,0 +1,4 @@
+pub mod Ring
+pub mod Carried
+pub mod Firsts
+pub mod Horner

@@ -1,0 +1,5 @@
+pub mod Linear
+pub mod Products
+pub mod ByteLaws
+pub mod PowerLaws
+pub mod Chained
