@@ -1,0 +1,85 @@
+//! The dual form of field elements: the form of the symbols in blocks and packets.
+mod element;
+mod tables;
+
+ghost use mathlib.Core.Path.{_≡_};
+ghost use Rattle.dual_form.specs.DualBasis.{Dual-basis};
+ghost use Rattle.dual_form.specs.DualForm.{power-of-dual, dual-of-power, dual-ops};
+pub use element::Dual;
+use field::Field;
+use power_form::Power;
+use power_form::PowerField;
+use tables::dual_byte;
+use tables::power_byte;
+
+impl Dual {
+    /// The element with this byte.
+    pub fn new(byte: u8) -> Dual
+        ensures { λ r. ⌜ r .byte ≡ byte ⌝ }
+    {
+        Dual { byte }
+    }
+
+    /// The same element in power form.
+    pub fn to_power(self) -> Power
+        ensures { λ r. ⌜ r ≡ power-of-dual self ⌝ }
+    {
+        Power::new(power_byte(self.byte))
+    }
+
+    /// The same element in dual form.
+    pub fn of_power(element: Power) -> Dual
+        ensures { λ r. ⌜ r ≡ dual-of-power element ⌝ }
+    {
+        Dual {
+            byte: dual_byte(element.bits),
+        }
+    }
+}
+
+pub impl Field for Dual as DualField {
+    ghost ops = { dual-ops };
+
+    fn order() -> u8 {
+        255
+    }
+
+    fn zero() -> Dual {
+        Dual { byte: 0 }
+    }
+
+    fn one() -> Dual {
+        Dual { byte: 0x7b }
+    }
+
+    fn alpha() -> Dual {
+        Dual { byte: 0xaf }
+    }
+
+    fn plus(self, other: Dual) -> Dual {
+        Dual {
+            byte: self.byte ^ other.byte,
+        }
+    }
+
+    fn times(self, other: Dual) -> Dual {
+        Dual::of_power(self.to_power().times(other.to_power()))
+    }
+
+    fn reciprocal(self) -> Option<Dual> {
+        match self.to_power().reciprocal() {
+            Some(element) => Some(Dual::of_power(element)),
+            None => None,
+        }
+    }
+
+    fn same(self, other: Dual) -> bool {
+        self.byte == other.byte
+    }
+}
+
+/// That the dual form is the traces and that the dual basis undoes it: a theorem, with nothing to compute.
+pub fn dual_basis_stands()
+    ensures { λ _. ⌜ Dual-basis ⌝ }
+{
+}

@@ -1,0 +1,122 @@
+//! The exponent form of field elements: a star for zero, or the exponent of a power of α.
+mod element;
+
+ghost use mathlib.Core.Path.{_≡_};
+ghost use Rattle.field.specs.Field.{mapped};
+ghost use Rattle.dual_form.specs.DualForm.{power-of-dual, dual-of-power};
+ghost use Rattle.exponent_form.specs.ExponentForm.{power-of-logarithm, logarithm-of-power, logarithm-ops, in-range};
+use dual_form::Dual;
+pub use element::Exponent;
+pub use element::Logarithm;
+use field::Field;
+use power_form::Power;
+use power_form::PowerField;
+use power_form::alpha_to;
+
+impl Exponent {
+    /// The exponent with this number; none above 254, since α^255 is α^0.
+    pub fn new(number: u8) -> Option<Exponent>
+        ensures { λ r. ⌜ mapped (λ e. e .number) r ≡ in-range number ⌝ }
+    {
+        if number < 255 {
+            Some(Exponent { number })
+        } else {
+            None
+        }
+    }
+}
+
+impl Logarithm {
+    /// The same element in power form.
+    pub fn to_power(self) -> Power
+        ensures { λ r. ⌜ r ≡ power-of-logarithm self ⌝ }
+    {
+        match self {
+            Logarithm::Star => Power::new(0),
+            Logarithm::Of(exponent) => alpha_to(exponent.number),
+        }
+    }
+
+    /// The same element in exponent form.
+    pub fn of_power(element: Power) -> Logarithm
+        ensures { λ r. ⌜ r ≡ logarithm-of-power element ⌝ }
+    {
+        match element.exponent() {
+            None => Logarithm::Star,
+            Some(number) => Logarithm::Of(Exponent { number }),
+        }
+    }
+
+    /// The same element in dual form.
+    pub fn to_dual(self) -> Dual
+        ensures { λ r. ⌜ r ≡ dual-of-power (power-of-logarithm self) ⌝ }
+    {
+        Dual::of_power(self.to_power())
+    }
+
+    /// The element of a dual byte in exponent form.
+    pub fn of_dual(element: Dual) -> Logarithm
+        ensures { λ r. ⌜ r ≡ logarithm-of-power (power-of-dual element) ⌝ }
+    {
+        Logarithm::of_power(element.to_power())
+    }
+}
+
+pub impl Field for Logarithm as LogarithmField {
+    ghost ops = { logarithm-ops };
+
+    fn order() -> u8 {
+        255
+    }
+
+    fn zero() -> Logarithm {
+        Logarithm::Star
+    }
+
+    fn one() -> Logarithm {
+        Logarithm::Of(Exponent { number: 0 })
+    }
+
+    fn alpha() -> Logarithm {
+        Logarithm::Of(Exponent { number: 1 })
+    }
+
+    fn plus(self, other: Logarithm) -> Logarithm {
+        Logarithm::of_power(self.to_power().plus(other.to_power()))
+    }
+
+    fn times(self, other: Logarithm) -> Logarithm {
+        match self {
+            Logarithm::Star => Logarithm::Star,
+            Logarithm::Of(m) => match other {
+                Logarithm::Star => Logarithm::Star,
+                Logarithm::Of(n) => {
+                    let sum = (m.number as u16 + n.number as u16) % 255;
+                    Logarithm::Of(Exponent { number: sum as u8 })
+                }
+            },
+        }
+    }
+
+    fn reciprocal(self) -> Option<Logarithm> {
+        match self {
+            Logarithm::Star => None,
+            Logarithm::Of(n) => Some(Logarithm::Of(Exponent {
+                number: (255 - n.number) % 255,
+            })),
+        }
+    }
+
+    fn same(self, other: Logarithm) -> bool {
+        match self {
+            Logarithm::Star => match other {
+                Logarithm::Star => true,
+                Logarithm::Of(_) => false,
+            },
+            Logarithm::Of(m) => match other {
+                Logarithm::Star => false,
+                Logarithm::Of(n) => m.number == n.number,
+            },
+        }
+    }
+}
