@@ -1,6 +1,6 @@
 -- The code: its numbers, its roots and its codewords, over any kind of field element.
 use mathlib.Core.Path.{_≡_}
-use mathlib.Core.List.{List}
+use mathlib.Core.List.{List, reverse}
 use Prim.Native.Nat.{ℕ, _+_}
 use lib.ListN.{length}
 use Rattle.field.specs.Field.{Ops, power, alpha-power}
@@ -25,6 +25,10 @@ gamma-power o c j = power o (alpha-power o (c .step)) j
 -- The root with the number k, from 0.
 abbrev pub root : {F : Type 0} → Ops F → Code → ℕ → F
 root o c k = gamma-power o c (c .first + k)
+
+-- The polynomial of symbols in the order in which they are sent: the first belongs to the highest power.
+abbrev pub of-symbols : {F : Type 0} → List F → List F
+of-symbols symbols = reverse symbols
 
 -- A codeword C_0, C_1 and so on: a polynomial, lowest power first, that is zero at every root.
 pub record Codeword {F : Type 0} (o : Ops F) (c : Code) (word : List F) : Type 0 where

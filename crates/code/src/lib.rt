@@ -27,5 +27,4 @@ pub fn gamma_to<F: Field>(j: u8) -> F
 /// Equal symbols are a codeword, and so is the sum of two codewords: a theorem, with nothing to compute.
 pub fn codewords_stand<F: Field>()
     ensures { λ _. ⌜ Codewords ops ⌝ }
-{
-}
+{}

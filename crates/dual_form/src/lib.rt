@@ -81,5 +81,4 @@ pub impl Field for Dual as DualField {
 /// That the dual form is the traces and that the dual basis undoes it: a theorem, with nothing to compute.
 pub fn dual_basis_stands()
     ensures { λ _. ⌜ Dual-basis ⌝ }
-{
-}
+{}

@@ -15,7 +15,9 @@ use tables::power_at;
 pub fn alpha_to(n: u8) -> Power
     ensures { λ r. ⌜ r ≡ alpha-power power-ops n ⌝ }
 {
-    Power { bits: power_at(n % 255) }
+    Power {
+        bits: power_at(n % 255),
+    }
 }
 
 impl Power {

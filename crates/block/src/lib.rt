@@ -1,0 +1,12 @@
+//! Blocks: their depth, their lanes, and the check that each lane is a codeword.
+mod checking;
+mod depth;
+mod fault;
+mod lanes;
+
+pub use checking::check;
+pub use depth::Depth;
+pub use fault::BlockFault;
+pub use fault::Verdict;
+pub use lanes::depth_of;
+pub use lanes::interleaving_stands;
