@@ -9,11 +9,10 @@ use Rattle.std.specs.Iters.{counting}
 use Rattle.std.proofs.shelf.Bits.{mul-add-lt, div-add-mod', div-below, mod-below}
 use Rattle.std.proofs.shelf.Lists.{getD-map, getD-reverse, length-map}
 use Rattle.std.proofs.shelf.Counted.{fill-by-all, getD-map-counting, length-map-counting}
-use Rattle.dual_form.specs.DualForm.{dual-ops}
+use Rattle.dual_form.specs.DualForm.{symbol, dual-ops}
 use Rattle.dual_form.specs.declared.element.Dual.{Dual}
-use Rattle.dual_form.proofs.DualLaws.{dual-equal}
 use Rattle.block.specs.Depths.{block-length}
-use Rattle.block.specs.Lanes.{symbol, lane, word, Interleaved}
+use Rattle.block.specs.Lanes.{lane, word, Interleaved}
 
 pub length-lane : (n d : ℕ) (bytes : List ℕ) (l : ℕ) → length (lane n d bytes l) ≡ n
 unfolding lane
@@ -57,7 +56,3 @@ interleaved d block m some long within =
     word-at d block (m % d) (254 - m / d) (dual-ops .nought) (omega arith)
     ∙ ap (λ i. symbol (getD block (i * d + m % d) 0)) twice
     ∙ ap (λ i. symbol (getD block i 0)) (div-add-mod' m d)
-
--- An element is the one of its byte.
-pub symbol-of : (x : Dual) (n : ℕ) → x .byte ≡ n → x ≡ symbol n
-symbol-of x n e = let same : x .byte ≡ n % 256 = omega (arith, x .small) in dual-equal same

@@ -2,20 +2,12 @@
 use mathlib.Core.Path.{_≡_}
 use mathlib.Core.List.{List, map}
 use Prim.Native.Nat.{ℕ, _+_, _-_, _*_, _/_, _%_, _<_}
-use native.Mathlib.Omega.{arith}
 use lib.ListN.{length, getD}
 use Rattle.std.specs.Iters.{counting}
 use Rattle.code.specs.Code.{telemetry, of-symbols}
-use Rattle.dual_form.specs.DualForm.{dual-ops}
+use Rattle.dual_form.specs.DualForm.{symbol, dual-ops}
 use Rattle.dual_form.specs.declared.element.Dual.{Dual}
 use Rattle.block.specs.Depths.{block-length}
-
-pub byte-below : (n : ℕ) → n % 256 < 256
-byte-below n = omega arith
-
--- The element of a byte in dual form.
-abbrev pub symbol : ℕ → Dual
-symbol n = record { byte = n % 256; small = byte-below n }
 
 -- The lane l of n·d bytes: the bytes i·d + l for i from 0 to n - 1, in the order in which they are sent.
 unfoldable pub lane : ℕ → ℕ → List ℕ → ℕ → List ℕ

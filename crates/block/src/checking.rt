@@ -1,6 +1,8 @@
 //! The check of a block: whether every sum of every lane is zero.
 ghost use mathlib.Core.Path.{_≡_};
 ghost use lib.ListN.{length};
+ghost use Rattle.field.specs.Polynomial.{value};
+ghost use Rattle.dual_form.specs.DualForm.{dual-ops};
 ghost use Rattle.block.specs.Depths.{block-length};
 ghost use Rattle.block.specs.Verdicts.{answer, found, first-broken, check-of, Accepts};
 use crate::depth::Depth;
@@ -10,30 +12,36 @@ use crate::lanes::depth_of;
 use crate::lanes::lane_word;
 use code::CHECKS;
 use code::FIRST_ROOT;
-use code::GAMMA;
 use code::SYMBOLS;
+use code::gamma;
 use code::gamma_to;
 use dual_form::Dual;
 use dual_form::DualField;
 use field::Field;
 use field::evaluate;
-use field::power;
+
+/// Whether the sum at x is zero.
+fn sum_is_zero(symbols: &[Dual], x: Dual) -> bool
+    ensures { λ r. ⌜ r ≡ dual-ops .same (value dual-ops (now (symbols .entry)) x) (dual-ops .nought) ⌝ }
+{
+    evaluate(symbols, x).same(Dual::zero())
+}
 
 /// The first lane and root whose sum is not zero, lanes first.
 fn first_broken(block: &[u8], depth: Depth) -> Verdict
     requires { ⌜ length (now block) ≡ block-length (depth .lanes) ⌝ }
     ensures { λ r. ⌜ found r ≡ first-broken (depth .lanes) (now (block .entry)) (depth .lanes) 0 ⌝ }
 {
-    let gamma: Dual = power(Dual::alpha(), GAMMA);
+    let step: Dual = gamma();
     'lanes: {
         for lane in 0..depth.lanes {
             let symbols = lane_word(block, depth, lane);
             let mut x: Dual = gamma_to(FIRST_ROOT);
             for root in FIRST_ROOT..FIRST_ROOT + CHECKS {
-                if !evaluate(&symbols, x).same(Dual::zero()) {
+                if !sum_is_zero(&symbols, x) {
                     break 'lanes Verdict::Broken { lane, root };
                 }
-                x = gamma.times(x);
+                x = step.times(x);
             }
         }
         Verdict::Codewords

@@ -19,7 +19,7 @@ abbrev pub telemetry : Code
 telemetry = record { symbols = 255; step = 11; first = 112; checks = 32 }
 
 -- γ to the power j.
-unfoldable pub gamma-power : {F : Type 0} → Ops F → Code → ℕ → F
+abbrev pub gamma-power : {F : Type 0} → Ops F → Code → ℕ → F
 gamma-power o c j = power o (alpha-power o (c .step)) j
 
 -- The root with the number k, from 0.

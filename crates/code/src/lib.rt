@@ -1,5 +1,6 @@
 //! The (255,223) code: the powers of γ, and what holds of its codewords in every kind of field element.
 ghost use mathlib.Core.Path.{_≡_};
+ghost use Rattle.field.specs.Field.{alpha-power};
 ghost use Rattle.code.specs.Claims.{Codewords};
 ghost use Rattle.code.specs.Code.{telemetry, gamma-power};
 use field::Field;
@@ -9,7 +10,7 @@ use field::power;
 pub const SYMBOLS: usize = 255;
 
 /// γ is α to this power.
-pub const GAMMA: u8 = 11;
+const GAMMA: u8 = 11;
 
 /// The roots are γ to the powers from this one on, as many as there are check symbols.
 pub const FIRST_ROOT: u8 = 112;
@@ -17,11 +18,18 @@ pub const FIRST_ROOT: u8 = 112;
 /// The number of check symbols.
 pub const CHECKS: u8 = 32;
 
+/// γ.
+pub fn gamma<F: Field>() -> F
+    ensures { λ r. ⌜ r ≡ alpha-power ops (telemetry .step) ⌝ }
+{
+    power(F::alpha(), GAMMA)
+}
+
 /// γ to the power j.
 pub fn gamma_to<F: Field>(j: u8) -> F
     ensures { λ r. ⌜ r ≡ gamma-power ops telemetry j ⌝ }
 {
-    power(power(F::alpha(), GAMMA), j)
+    power(gamma(), j)
 }
 
 /// Equal symbols are a codeword, and so is the sum of two codewords: a theorem, with nothing to compute.

@@ -14,13 +14,13 @@ use Rattle.power_form.specs.Arithmetic.{times-alpha, alpha-byte, scaled, produc
 use Rattle.power_form.proofs.Products.{bit-keeps, swap}
 use Rattle.dual_form.specs.Dual.{squares, trace, beta, dual-bits, to-dual, dual-exponents, basis-sum, of-dual}
 
-pub of-to : (a : ℕ) → a < 256 → of-dual (to-dual a) ≡ a
+pub of-to : (a : ℕ) → a < 256 → of-dual (to-dual a % 256) % 256 ≡ a
 unfolding times-alpha alpha-byte scaled product squares trace beta dual-bits to-dual dual-exponents basis-sum of-dual
-of-to = agree 256 (λ a. of-dual (to-dual a)) (λ a. a) tt
+of-to = agree 256 (λ a. of-dual (to-dual a % 256) % 256) (λ a. a) tt
 
-pub to-of : (z : ℕ) → z < 256 → to-dual (of-dual z) ≡ z
+pub to-of : (z : ℕ) → z < 256 → to-dual (of-dual z % 256) % 256 ≡ z
 unfolding times-alpha alpha-byte scaled product squares trace beta dual-bits to-dual dual-exponents basis-sum of-dual
-to-of = agree 256 (λ z. to-dual (of-dual z)) (λ z. z) tt
+to-of = agree 256 (λ z. to-dual (of-dual z % 256) % 256) (λ z. z) tt
 
 basis-sum-keeps : (es : List ℕ) (x y : ℕ) → basis-sum es (bitXor x y) ≡ bitXor (basis-sum es x) (basis-sum es y)
 unfolding basis-sum
@@ -33,13 +33,18 @@ basis-sum-keeps (e ∷ es) x y =
     (basis-sum-keeps es x y)
     ∙ swap (x / 2 ^ k % 2 * alpha-byte e) (y / 2 ^ k % 2 * alpha-byte e) (basis-sum es x) (basis-sum es y)
 
-pub of-dual-keeps : (x y : ℕ) → of-dual (bitXor x y) ≡ bitXor (of-dual x) (of-dual y)
+of-dual-keeps : (x y : ℕ) → of-dual (bitXor x y) % 256 ≡ bitXor (of-dual x % 256) (of-dual y % 256) % 256
 unfolding of-dual
-of-dual-keeps x y = ap (λ n. n % 2 ^ 8) (basis-sum-keeps dual-exponents x y) ∙ xor-mod (basis-sum dual-exponents x) (basis-sum dual-exponents y) 8
+of-dual-keeps x y =
+    let u = basis-sum dual-exponents x in
+    let v = basis-sum dual-exponents y in
+    let sum : bitXor u v % 256 ≡ bitXor (u % 256) (v % 256) = xor-mod u v 8 in
+    let small : bitXor (u % 256) (v % 256) < 256 = xor-lt 8 (u % 256) (v % 256) (omega arith) (omega arith) in
+    ap (λ n. n % 256) (basis-sum-keeps dual-exponents x y) ∙ sum ∙ (let e : bitXor (u % 256) (v % 256) ≡ bitXor (u % 256) (v % 256) % 256 = omega arith in e)
 
 -- The byte of a sum is the sum of the bytes.
-pub dual-sum : (x y : ℕ) → x < 256 → y < 256 → bitXor x y ≡ to-dual (bitXor (of-dual x) (of-dual y))
-dual-sum x y hx hy = sym (to-of (bitXor x y) (xor-lt 8 x y hx hy)) ∙ ap to-dual (of-dual-keeps x y)
+pub dual-sum : (x y : ℕ) → x < 256 → y < 256 → bitXor x y ≡ to-dual (bitXor (of-dual x % 256) (of-dual y % 256) % 256) % 256
+dual-sum x y hx hy = sym (to-of (bitXor x y) (xor-lt 8 x y hx hy)) ∙ ap (λ n. to-dual n % 256) (of-dual-keeps x y)
 
 pub trace-parity : (u : ℕ) → u < 256 → trace u ≡ ones (bitAnd u 0xfe) % 2
 unfolding times-alpha scaled product squares trace ones

@@ -1,16 +1,15 @@
 -- The dual form keeps the laws, by those of the power form.
 use mathlib.Core.Path.{_≡_, ap}
 use mathlib.Core.HLevel.{isProp→PathP}
-use Prim.Native.Nat.{_<_}
+use Prim.Native.Nat.{ℕ, _%_, _<_}
 use native.Mathlib.Bridge.{le-prop}
-use lib.Dec.{eqb}
-use Rattle.std.proofs.shelf.Ways.{decides-eqb, decides-like, same-from-decides}
+use native.Mathlib.Omega.{arith}
 use Rattle.field.specs.Field.{Laws}
 use Rattle.field.proofs.Carried.{carried-laws}
 use Rattle.power_form.specs.PowerForm.{power-ops}
 use Rattle.power_form.specs.declared.element.Power.{Power}
 use Rattle.power_form.proofs.PowerLaws.{power-equal, power-laws}
-use Rattle.dual_form.specs.DualForm.{power-of-dual, dual-of-power, dual-ops}
+use Rattle.dual_form.specs.DualForm.{symbol, power-of-dual, dual-of-power, dual-ops}
 use Rattle.dual_form.specs.DualBasis.{Dual-basis}
 use Rattle.dual_form.specs.declared.element.Dual.{Dual}
 use Rattle.dual_form.proofs.Bytes.{of-to, to-of, trace-pairs, trace-parity}
@@ -28,12 +27,9 @@ forth x = dual-equal (to-of (x .byte) (x .small))
 pub dual-laws : Laws dual-ops
 dual-laws = carried-laws power-ops dual-of-power power-of-dual back power-laws forth
 
--- The test of bytes is the form's test of sameness.
-pub dual-same : (x y : Dual) → eqb (x .byte) (y .byte) ≡ dual-ops .same x y
-dual-same x y =
-    same-from-decides (eqb (x .byte) (y .byte)) (dual-ops .same x y)
-    (decides-like (eqb (x .byte) (y .byte)) dual-equal (ap (λ (d : Dual). d .byte)) (decides-eqb (x .byte) (y .byte)))
-    (dual-laws .sameness x y)
+-- An element is the one with its byte.
+pub symbol-of : (x : Dual) (n : ℕ) → x .byte ≡ n → x ≡ symbol n
+symbol-of x n e = let same : x .byte ≡ n % 256 = omega (arith, x .small) in dual-equal same
 
 pub dual-basis : Dual-basis
 dual-basis = record { back = back; forth = forth; pairs = trace-pairs; parity = trace-parity }

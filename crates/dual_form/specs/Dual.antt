@@ -25,7 +25,7 @@ dual-bits (suc k) bits a = dual-bits k (bits * 2 + trace a) (product beta a)
 
 -- The dual byte of an element: z0 to z7, z0 the most significant, where zi is the trace of β^i·a.
 unfoldable pub to-dual : ℕ → ℕ
-to-dual a = dual-bits 8 0 a % 256
+to-dual a = dual-bits 8 0 a
 
 -- The exponents of the dual basis ℓ0 to ℓ7.
 unfoldable pub dual-exponents : List ℕ
@@ -38,4 +38,4 @@ basis-sum (e ∷ es) z = bitXor (z / 2 ^ length es % 2 * alpha-byte e) (basis-su
 
 -- The element of a dual byte: the sum of those ℓi whose zi is 1.
 unfoldable pub of-dual : ℕ → ℕ
-of-dual z = basis-sum dual-exponents z % 256
+of-dual z = basis-sum dual-exponents z

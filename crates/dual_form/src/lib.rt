@@ -4,7 +4,7 @@ mod tables;
 
 ghost use mathlib.Core.Path.{_≡_};
 ghost use Rattle.dual_form.specs.DualBasis.{Dual-basis};
-ghost use Rattle.dual_form.specs.DualForm.{power-of-dual, dual-of-power, dual-ops};
+ghost use Rattle.dual_form.specs.DualForm.{symbol, power-of-dual, dual-of-power, dual-ops};
 pub use element::Dual;
 use field::Field;
 use power_form::Power;
@@ -12,12 +12,26 @@ use power_form::PowerField;
 use tables::dual_byte;
 use tables::power_byte;
 
+/// The element with this byte.
+fn symbol_with(byte: u8) -> Dual
+    ensures { λ r. ⌜ r ≡ symbol byte ⌝ }
+{
+    Dual { byte }
+}
+
+/// The sum: bit by bit, since a trace of a sum is the sum of the traces.
+fn sum(x: Dual, y: Dual) -> Dual
+    ensures { λ r. ⌜ r ≡ dual-ops .sum x y ⌝ }
+{
+    symbol_with(x.byte ^ y.byte)
+}
+
 impl Dual {
     /// The element with this byte.
     pub fn new(byte: u8) -> Dual
-        ensures { λ r. ⌜ r .byte ≡ byte ⌝ }
+        ensures { λ r. ⌜ r ≡ symbol byte ⌝ }
     {
-        Dual { byte }
+        symbol_with(byte)
     }
 
     /// The same element in power form.
@@ -31,9 +45,7 @@ impl Dual {
     pub fn of_power(element: Power) -> Dual
         ensures { λ r. ⌜ r ≡ dual-of-power element ⌝ }
     {
-        Dual {
-            byte: dual_byte(element.bits),
-        }
+        Dual::new(dual_byte(element.bits))
     }
 }
 
@@ -45,21 +57,19 @@ pub impl Field for Dual as DualField {
     }
 
     fn zero() -> Dual {
-        Dual { byte: 0 }
+        Dual::of_power(Power::zero())
     }
 
     fn one() -> Dual {
-        Dual { byte: 0x7b }
+        Dual::of_power(Power::one())
     }
 
     fn alpha() -> Dual {
-        Dual { byte: 0xaf }
+        Dual::of_power(Power::alpha())
     }
 
     fn plus(self, other: Dual) -> Dual {
-        Dual {
-            byte: self.byte ^ other.byte,
-        }
+        sum(self, other)
     }
 
     fn times(self, other: Dual) -> Dual {
@@ -74,7 +84,7 @@ pub impl Field for Dual as DualField {
     }
 
     fn same(self, other: Dual) -> bool {
-        self.byte == other.byte
+        self.to_power().same(other.to_power())
     }
 }
 

@@ -13,13 +13,14 @@ use Rattle.std.specs.Orderings.{Decides}
 use Rattle.std.specs.declared.option.Option.the-variants.{Some, None}
 use Rattle.field.specs.Field.{Laws, mapped}
 use Rattle.field.proofs.Carried.{carried-laws}
-use Rattle.power_form.specs.Arithmetic.{times-alpha, alpha-byte, product, exponent, exponent-below, inverse}
-use Rattle.power_form.specs.PowerForm.{power-ops, exponent-if}
+use Rattle.power_form.specs.Arithmetic.{times-alpha, alpha-byte, product, exponent, inverse}
+use Rattle.power_form.proofs.Bounds.{exponent-below}
+use Rattle.power_form.specs.PowerForm.{element, power-ops, exponent-if}
 use Rattle.power_form.specs.declared.element.Power.{Power}
 use Rattle.table.proofs.Tests.{below}
 use Rattle.power_form.proofs.ByteLaws.{exponent-of-power, power-of-exponent, powers-product, power-mod, product-zero}
-use Rattle.power_form.proofs.PowerLaws.{power-equal, power-bits, power-laws, reciprocal-some}
-use Rattle.exponent_form.specs.ExponentForm.{of-number, power-of-logarithm, logarithm-if, logarithm-of-power, logarithm-ops}
+use Rattle.power_form.proofs.PowerLaws.{power-equal, element-of, product-bits, power-bits, power-laws, reciprocal-some}
+use Rattle.exponent_form.specs.ExponentForm.{numbered, power-of-logarithm, logarithm-if, logarithm-of-power, logarithm-ops}
 use Rattle.exponent_form.specs.declared.element.Exponent.{Exponent}
 use Rattle.exponent_form.specs.declared.element.Logarithm.{Logarithm}
 use Rattle.exponent_form.specs.declared.element.Logarithm.the-variants.{Star, Of}
@@ -39,7 +40,9 @@ exponent-found false a n e = (refl, cc)
 
 -- The logarithm of a byte that is not zero.
 pub logarithm-some : (a : ℕ) (e : Exponent) → 0 < a → exponent a ≡ e .number → logarithm-if (eqb a 0) a ≡ Of e
-logarithm-some a e positive same = ap (λ b. logarithm-if b a) (ne-eqb a 0 (λ z. omega arith)) ∙ ap Of (exponent-equal same)
+logarithm-some a e positive same =
+    let number : exponent a % 255 ≡ e .number = omega (arith, exponent-below a) in
+    ap (λ b. logarithm-if b a) (ne-eqb a 0 (λ z. omega arith)) ∙ ap Of (exponent-equal number)
 
 pub of-power : (e : Exponent) → logarithm-of-power (power-of-logarithm (Of e)) ≡ Of e
 of-power e =
@@ -57,7 +60,8 @@ back p = at (eqb-tells (p .bits) 0)
     at (inl z) = ap (λ b. power-of-logarithm (logarithm-if b (p .bits))) (z .0) ∙ power-equal (sym (z .1))
     at (inr z) =
         let ne : p .bits ≢ 0 = z .1 in
-        ap (λ b. power-of-logarithm (logarithm-if b (p .bits))) (z .0) ∙ power-equal (power-bits (exponent (p .bits)) ∙ power-of-exponent (p .bits) (omega arith) (p .byte))
+        let small : exponent (p .bits) % 255 ≡ exponent (p .bits) = omega (arith, exponent-below (p .bits)) in
+        ap (λ b. power-of-logarithm (logarithm-if b (p .bits))) (z .0) ∙ power-equal (power-bits (exponent (p .bits) % 255) ∙ ap alpha-byte small ∙ power-of-exponent (p .bits) (omega arith) (p .byte))
 
 pub logarithm-laws : Laws logarithm-ops
 logarithm-laws = carried-laws power-ops logarithm-of-power power-of-logarithm back power-laws forth
@@ -67,13 +71,13 @@ pub logarithm-product : (x y s : Exponent) → s .number ≡ (x .number + y .num
 logarithm-product x y s e =
     let same : power-of-logarithm (Of s) ≡ power-ops .product (power-of-logarithm (Of x)) (power-of-logarithm (Of y)) =
     power-equal (power-bits (s .number) ∙ ap alpha-byte e ∙ sym (power-mod (x .number + y .number)) ∙ sym (powers-product (x .number) (y .number))
-    ∙ sym (ap₂ product (power-bits (x .number)) (power-bits (y .number)))) in
+    ∙ sym (product-bits (power-of-logarithm (Of x)) (power-of-logarithm (Of y)) ∙ ap₂ product (power-bits (x .number)) (power-bits (y .number)))) in
     sym (of-power s) ∙ ap logarithm-of-power same
 
 pub product-star-left : (y : Logarithm) → Star ≡ logarithm-ops .product Star y
 product-star-left y =
     let same : power-of-logarithm Star ≡ power-ops .product (power-of-logarithm Star) (power-of-logarithm y) =
-    power-equal (sym (product-zero 0 (power-of-logarithm y .bits) (inl refl))) in
+    sym (ap element (product-zero 0 (power-of-logarithm y .bits) (inl refl))) in
     ap logarithm-of-power same
 
 pub product-star-right : (x : Logarithm) → Star ≡ logarithm-ops .product x Star
@@ -82,10 +86,13 @@ product-star-right x = product-star-left x ∙ logarithm-laws .product-comm Star
 pub logarithm-reciprocal : (n s : Exponent) → s .number ≡ (255 - n .number) % 255 → Some (Of s) ≡ logarithm-ops .reciprocal (Of n)
 unfolding inverse
 logarithm-reciprocal n s e =
-    let positive : 0 < power-of-logarithm (Of n) .bits = subst (λ a. 0 < a) (sym (power-bits (n .number))) (power-positive (n .number) (n .below)) in
-    ap Some (sym (of-power s))
-    ∙ ap (mapped logarithm-of-power) (reciprocal-some (power-of-logarithm (Of n)) (power-of-logarithm (Of s)) positive
-    (power-bits (s .number) ∙ ap alpha-byte (e ∙ ap (λ k. (255 - k) % 255) (sym (exponent-of-power (n .number) (n .below)))) ∙ sym (ap inverse (power-bits (n .number)))))
+    let a = power-of-logarithm (Of n) .bits in
+    let positive : 0 < a = subst (λ a. 0 < a) (sym (power-bits (n .number))) (power-positive (n .number) (n .below)) in
+    let same : power-of-logarithm (Of s) ≡ element (inverse a) =
+    element-of (power-of-logarithm (Of s)) (inverse a)
+    (power-bits (s .number) ∙ ap alpha-byte (e ∙ ap (λ k. (255 - k) % 255) (sym (exponent-of-power (n .number) (n .below)))) ∙ sym (ap inverse (power-bits (n .number)))) in
+    ap Some (sym (of-power s) ∙ ap logarithm-of-power same)
+    ∙ ap (mapped logarithm-of-power) (reciprocal-some a positive)
 
 -- Any right test of sameness is the form's.
 pub logarithm-same : (x y : Logarithm) (r : Bool) → Decides r (x ≡ y) → r ≡ logarithm-ops .same x y

@@ -2,6 +2,7 @@
 mod element;
 
 ghost use mathlib.Core.Path.{_≡_};
+ghost use Prim.Native.Nat.{_+_, _-_, _%_};
 ghost use Rattle.field.specs.Field.{mapped};
 ghost use Rattle.dual_form.specs.DualForm.{power-of-dual, dual-of-power};
 ghost use Rattle.exponent_form.specs.ExponentForm.{power-of-logarithm, logarithm-of-power, logarithm-ops, in-range};
@@ -12,6 +13,20 @@ use field::Field;
 use power_form::Power;
 use power_form::PowerField;
 use power_form::alpha_to;
+
+/// The exponent of a product.
+fn exponents_added(m: u8, n: u8) -> u8
+    ensures { λ r. ⌜ r ≡ (m + n) % 255 ⌝ }
+{
+    ((m as u16 + n as u16) % 255) as u8
+}
+
+/// The exponent of a reciprocal.
+fn exponent_negated(n: u8) -> u8
+    ensures { λ r. ⌜ r ≡ (255 - n) % 255 ⌝ }
+{
+    (255 - n) % 255
+}
 
 impl Exponent {
     /// The exponent with this number; none above 254, since α^255 is α^0.
@@ -74,11 +89,11 @@ pub impl Field for Logarithm as LogarithmField {
     }
 
     fn one() -> Logarithm {
-        Logarithm::Of(Exponent { number: 0 })
+        Logarithm::of_power(Power::one())
     }
 
     fn alpha() -> Logarithm {
-        Logarithm::Of(Exponent { number: 1 })
+        Logarithm::of_power(Power::alpha())
     }
 
     fn plus(self, other: Logarithm) -> Logarithm {
@@ -90,10 +105,9 @@ pub impl Field for Logarithm as LogarithmField {
             Logarithm::Star => Logarithm::Star,
             Logarithm::Of(m) => match other {
                 Logarithm::Star => Logarithm::Star,
-                Logarithm::Of(n) => {
-                    let sum = (m.number as u16 + n.number as u16) % 255;
-                    Logarithm::Of(Exponent { number: sum as u8 })
-                }
+                Logarithm::Of(n) => Logarithm::Of(Exponent {
+                    number: exponents_added(m.number, n.number),
+                }),
             },
         }
     }
@@ -102,7 +116,7 @@ pub impl Field for Logarithm as LogarithmField {
         match self {
             Logarithm::Star => None,
             Logarithm::Of(n) => Some(Logarithm::Of(Exponent {
-                number: (255 - n.number) % 255,
+                number: exponent_negated(n.number),
             })),
         }
     }

@@ -47,15 +47,29 @@ pub fn power<F: Field>(base: F, exponent: u8) -> F
     x
 }
 
+/// A coefficient and x times the value of those above it: one step of Horner's rule.
+fn horner_step<F: Field>(coefficient: F, x: F, above: F) -> F
+    ensures { λ r. ⌜ r ≡ ops .sum coefficient (ops .product x above) ⌝ }
+{
+    coefficient.plus(x.times(above))
+}
+
 /// The value at x of the polynomial with these coefficients, lowest power first.
 pub fn evaluate<F: Field>(coefficients: &[F], x: F) -> F
     ensures { λ r. ⌜ r ≡ value ops (now (coefficients .entry)) x ⌝ }
 {
     let mut sum = F::zero();
     for i in (0..coefficients.len()).rev() {
-        sum = coefficients[i].plus(x.times(sum));
+        sum = horner_step(coefficients[i], x, sum);
     }
     sum
+}
+
+/// Whether the polynomial is zero at x.
+fn is_root<F: Field>(coefficients: &[F], x: F) -> bool
+    ensures { λ r. ⌜ r ≡ ops .same (value ops (now (coefficients .entry)) x) (ops .nought) ⌝ }
+{
+    evaluate(coefficients, x).same(F::zero())
 }
 
 /// The first n, from a given one on and below α's order, for which α^n is a root of the polynomial.
@@ -68,7 +82,7 @@ pub fn first_root<F: Field>(coefficients: &[F], from: usize) -> Option<usize>
     }
     let mut x = power(F::alpha(), from as u8);
     for n in from..order {
-        if evaluate(coefficients, x).same(F::zero()) {
+        if is_root(coefficients, x) {
             return Some(n);
         }
         x = F::alpha().times(x);

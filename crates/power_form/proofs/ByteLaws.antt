@@ -9,7 +9,8 @@ use native.Mathlib.Omega.{arith}
 use lib.Bits.{bitXor, xor-lt, xor-zero-r}
 use lib.Dec.{eqb, eqb→eq, T, lit<}
 use Rattle.std.proofs.shelf.Bits.{div-add-mod'}
-use Rattle.power_form.specs.Arithmetic.{times-alpha, alpha-byte, scaled, product, exponent-from, exponent, inverse, alpha-below, power-below, product-below}
+use Rattle.power_form.specs.Arithmetic.{times-alpha, alpha-byte, scaled, product, exponent-from, exponent, inverse}
+use Rattle.power_form.proofs.Bounds.{power-below}
 use Rattle.table.specs.Computed.{all-below}
 use Rattle.table.proofs.Tests.{below, agree}
 use Rattle.power_form.proofs.Linear.{Additive, at-zero, extend}

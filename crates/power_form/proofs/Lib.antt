@@ -1,3 +1,4 @@
+pub mod Bounds
 pub mod Linear
 pub mod Products
 pub mod ByteLaws

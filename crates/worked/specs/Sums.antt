@@ -1,17 +1,16 @@
 -- Sums worked out on paper.
 use mathlib.Core.Path.{_≡_}
-use Prim.Native.Nat.{ℕ, _<_}
-use lib.Dec.{lit<}
+use Prim.Native.Nat.{ℕ}
 use Rattle.field.specs.Field.{alpha-power}
 use Rattle.power_form.specs.PowerForm.{power-ops}
 use Rattle.dual_form.specs.Dual.{of-dual}
-use Rattle.exponent_form.specs.ExponentForm.{of-number, logarithm-ops}
+use Rattle.exponent_form.specs.ExponentForm.{numbered, logarithm-ops}
 use Rattle.exponent_form.specs.declared.element.Logarithm.{Logarithm}
 use Rattle.exponent_form.specs.declared.element.Logarithm.the-variants.{Of}
 
 -- α^n in exponent form.
-abbrev pub exponent : (n : ℕ) → n < 255 → Logarithm
-exponent n h = Of (of-number n h)
+abbrev pub exponent : ℕ → Logarithm
+exponent n = Of (numbered n)
 
 pub record Worked-sums : Type 0 where
   -- powers of α in power form
@@ -24,5 +23,5 @@ pub record Worked-sums : Type 0 where
   pub dual-FF : of-dual 0xFF ≡ 0xBD
   pub dual-00 : of-dual 0x00 ≡ 0x00
   -- in exponent form 200 times 100 is 45, and 6 plus 1 is 88
-  pub product-45 : logarithm-ops .product (exponent 200 (lit< tt)) (exponent 100 (lit< tt)) ≡ exponent 45 (lit< tt)
-  pub sum-88 : logarithm-ops .sum (exponent 6 (lit< tt)) (exponent 1 (lit< tt)) ≡ exponent 88 (lit< tt)
+  pub product-45 : logarithm-ops .product (exponent 200) (exponent 100) ≡ exponent 45
+  pub sum-88 : logarithm-ops .sum (exponent 6) (exponent 1) ≡ exponent 88

@@ -12,8 +12,7 @@ loop-i-holds g c =
 
 pub loop-i-again : need.loop-i-again
 loop-i-again g c =
-    c .plus-sum .ensures
-    ∙ ap (g .F·Field .ops .sum (c .index-coefficients-i .result)) (c .times .ensures)
+    c .horner-step-sum .ensures
     ∙ horner-next (g .F·Field .ops) (c .args .coefficients .now) (c .args .x) (c .loop-i .i) (c .index-coefficients-i .result) (c .loop-i .sum)
     (omega arith) (c .loop-i .kept .i) (c .index-coefficients-i .is) (c .loop-i .inv)
 

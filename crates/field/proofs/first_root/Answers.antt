@@ -21,13 +21,13 @@ loop-n-holds g c =
     let o = g .F·Field .ops in
     (c .power-x .ensures ∙ ap (λ a. power o a (c .args .from)) (c .alpha .ensures), refl)
 
-pub returns-then-same : need.returns-then-same
-returns-then-same g c =
+pub returns-then-is-root : need.returns-then-is-root
+returns-then-is-root g c =
     let o = g .F·Field .ops in
     let cs = c .args .coefficients .now in
     let within : c .loop-n .n < o .order = omega (arith, c .order-order .ensures) in
     let there : o .same (value o cs (alpha-power o (c .loop-n .n))) (o .nought) ≡ true =
-    sym (ap₂ (o .same) (c .evaluate .ensures ∙ ap (value o cs) (c .loop-n .inv .0)) (c .zero .ensures)) ∙ sym (c .if-same .ensures tt) in
+    sym (ap (λ x. o .same (value o cs x) (o .nought)) (c .loop-n .inv .0)) ∙ sym (c .if-is-root .ensures tt) in
     sym (first-found (λ k. o .same (value o cs (alpha-power o k)) (o .nought)) (o .order) (c .loop-n .n) within there) ∙ c .loop-n .inv .1
 
 pub loop-n-again : need.loop-n-again
@@ -36,7 +36,7 @@ loop-n-again g c =
     let cs = c .args .coefficients .now in
     let within : c .loop-n .n < o .order = omega (arith, c .order-order .ensures) in
     let there : o .same (value o cs (alpha-power o (c .loop-n .n))) (o .nought) ≡ false =
-    sym (ap₂ (o .same) (c .evaluate .ensures ∙ ap (value o cs) (c .loop-n .inv .0)) (c .zero .ensures)) ∙ sym (c .if-same .ensures tt) in (
+    sym (ap (λ x. o .same (value o cs x) (o .nought)) (c .loop-n .inv .0)) ∙ sym (c .if-is-root .ensures tt) in (
       c .times-x .ensures ∙ ap₂ (o .product) (c .alpha-in-loop-n .ensures) (c .loop-n .inv .0) ∙ power-next o (o .alpha) (c .loop-n .n),
       first-passed (λ k. o .same (value o cs (alpha-power o k)) (o .nought)) (o .order) (c .loop-n .n) within there ∙ c .loop-n .inv .1,
     )

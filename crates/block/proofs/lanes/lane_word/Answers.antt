@@ -1,12 +1,11 @@
-use mathlib.Core.Path.{_≡_, ap, subst, _∙_}
-use Prim.Native.Nat.{ℕ, _+_, _-_, _*_, _<_}
+use mathlib.Core.Path.{_≡_, ap, _∙_}
+use Prim.Native.Nat.{ℕ, _+_, _-_, _*_}
 use native.Mathlib.Omega.{arith}
-use borrow.Author.Needs.{needs}
-use lib.ListN.{getD, set, length, length-set}
+use lib.ListN.{getD, set, length-set}
 use Rattle.std.proofs.shelf.Edits.{fill-by-more}
-use Rattle.block.specs.Lanes.{symbol}
+use Rattle.dual_form.specs.DualForm.{symbol}
 use Rattle.dual_form.specs.declared.element.Dual.{Dual}
-use Rattle.block.proofs.Places.{place-below, symbol-of, word-filled}
+use Rattle.block.proofs.Places.{place-below, word-filled}
 use Rattle.block.proofs.lanes.lane_word.Needs as need
 
 pub index-block-k : need.index-block-k
@@ -15,10 +14,10 @@ index-block-k c = omega (arith, place-below (c .args .depth .lanes) (c .args .la
 pub loop-k-again : need.loop-k-again
 loop-k-again c =
     let at : ℕ → Dual = λ j. symbol (getD (c .args .block .now) ((254 - j) * c .args .depth .lanes + c .args .lane) 0) in
-    let here : c .new .result ≡ at (c .loop-k .k) = symbol-of (c .new .result) _ (c .new .ensures) in (
+    (
       simp length-set (c .loop-k .inv .0),
-      λ j h. ap (λ x. getD (set (c .loop-k .symbols) (c .loop-k .k) x) j (symbol 0)) here
-          ∙ fill-by-more at (c .loop-k .symbols) (c .loop-k .k) (symbol 0) (omega (arith, c .loop-k .inv .0)) (c .loop-k .inv .1) j h,
+      λ j h. ap (λ x. getD (set (c .loop-k .symbols) (c .loop-k .k) x) j (symbol 0)) (c .new .ensures)
+      ∙ fill-by-more at (c .loop-k .symbols) (c .loop-k .k) (symbol 0) (omega (arith, c .loop-k .inv .0)) (c .loop-k .inv .1) j h,
     )
 
 pub returns : need.returns

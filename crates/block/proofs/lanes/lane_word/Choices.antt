@@ -1,7 +1,7 @@
 use mathlib.Core.Path.{_≡_}
 use Prim.Native.Nat.{ℕ, _+_, _-_, _*_, _<_}
 use lib.ListN.{length, getD}
-use Rattle.block.specs.Lanes.{symbol}
+use Rattle.dual_form.specs.DualForm.{symbol}
 use Rattle.block.proofs.lanes.lane_word.Given as given
 
 abbrev pub Inv-loop-k : given.InvT-loop-k

@@ -4,4 +4,4 @@ use Rattle.exponent_form.proofs.ExponentLaws.{logarithm-reciprocal}
 use Rattle.exponent_form.proofs.LogarithmField.reciprocal.Needs as need
 
 pub returns-in-Of : need.returns-in-Of
-returns-in-Of c = logarithm-reciprocal (c .in-Of .n) _ refl ∙ sym (ap (logarithm-ops .reciprocal) (c .in-Of .is))
+returns-in-Of c = logarithm-reciprocal (c .in-Of .n) _ (c .exponent-negated .ensures) ∙ sym (ap (logarithm-ops .reciprocal) (c .in-Of .is))

@@ -10,4 +10,4 @@ pub returns-in-Star-other : need.returns-in-Star-other
 returns-in-Star-other c = product-star-right (c .args .self) ∙ sym (ap (logarithm-ops .product (c .args .self)) (c .in-Star-other .is))
 
 pub returns-in-Of-other : need.returns-in-Of-other
-returns-in-Of-other c = logarithm-product (c .in-Of .m) (c .in-Of-other .n) _ refl ∙ sym (ap₂ (logarithm-ops .product) (c .in-Of .is) (c .in-Of-other .is))
+returns-in-Of-other c = logarithm-product (c .in-Of .m) (c .in-Of-other .n) _ (c .exponents-added .ensures) ∙ sym (ap₂ (logarithm-ops .product) (c .in-Of .is) (c .in-Of-other .is))
