@@ -7,9 +7,10 @@ use lib.Dec.{leb, leb→le}
 use lib.ListN.{length, replicate, length-replicate}
 use Rattle.table.proofs.Tests.{below}
 use Rattle.field.specs.Field.{Ops, power, alpha-power}
-use Rattle.field.specs.Polynomial.{plus}
-use Rattle.field.proofs.Horner.{value-plus}
-use Rattle.field.proofs.Powers.{power-product, alpha-turns, alpha-power-turn, equal-vanish}
+use Rattle.polynomial.specs.Coefficients.{plus}
+use Rattle.polynomial.proofs.Algebra.{value-plus}
+use Rattle.polynomial.proofs.Geometric.{equal-vanish}
+use Rattle.polynomial.proofs.Powers.{power-product, alpha-turns, alpha-power-turn}
 use Rattle.field.proofs.Ring.{Lawful}
 use Rattle.code.specs.Code.{Code, telemetry, gamma-power, root, Codeword}
 use Rattle.code.specs.Claims.{Codewords}

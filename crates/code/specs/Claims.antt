@@ -3,7 +3,7 @@ use mathlib.Core.Path.{_≡_}
 use mathlib.Core.List.{List}
 use lib.ListN.{replicate}
 use Rattle.field.specs.Field.{Ops}
-use Rattle.field.specs.Polynomial.{plus}
+use Rattle.polynomial.specs.Coefficients.{plus}
 use Rattle.code.specs.Code.{Code, telemetry, Codeword}
 
 pub record Codewords {F : Type 0} (o : Ops F) : Type 0 where

@@ -8,8 +8,8 @@ use native.Mathlib.Omega.{arith}
 use lib.ListN.{length, drop, getD}
 use lib.Seq.{drop-cons}
 use Rattle.field.specs.Field.{Ops, power}
-use Rattle.field.specs.Polynomial.{terms, value, plus}
-use Rattle.field.proofs.Ring.{Lawful, ring, add-zero}
+use Rattle.field.specs.Polynomial.{terms, value}
+use Rattle.field.proofs.Ring.{Lawful, ring}
 
 -- One power more.
 pub power-next : {F : Type 0} (o : Ops F) (x : F) (n : ℕ) → o .product x (power o x n) ≡ power o x (n + 1)
@@ -33,7 +33,7 @@ horner-next o cs x (suc i) c s positive within read before =
     ∙ sym (ap (λ k. horner o (drop k cs) x) less)
 
 module _ {K : Type 0} (F : Lawful K) where
-  open Ops (F .ops) using (nought as 𝟎, unit as 𝟏, sum as _⊕_, product as _⊗_)
+  open Ops (F .ops) using (unit as 𝟏, sum as _⊕_, product as _⊗_)
 
   infixl 60 _⊕_
   infixl 70 _⊗_
@@ -48,16 +48,3 @@ module _ {K : Type 0} (F : Lawful K) where
   pub value-horner : (cs : List K) (x : K) → value (F .ops) cs x ≡ horner (F .ops) cs x
   unfolding value
   value-horner cs x = terms-horner cs x 𝟏 ∙ F .laws .product-unit (horner (F .ops) cs x)
-
-  both : (a b x p q : K) → (a ⊕ b) ⊕ x ⊗ (p ⊕ q) ≡ (a ⊕ x ⊗ p) ⊕ (b ⊕ x ⊗ q)
-  both a b x p q = simp ring
-
-  horner-plus : (p q : List K) (x : K) → horner (F .ops) (plus (F .ops) p q) x ≡ horner (F .ops) p x ⊕ horner (F .ops) q x
-  unfolding horner plus
-  horner-plus [] q x = sym (F .laws .sum-nought (horner (F .ops) q x))
-  horner-plus (a ∷ p) [] x = sym (add-zero F (horner (F .ops) (a ∷ p) x))
-  horner-plus (a ∷ p) (b ∷ q) x = ap (λ t. (a ⊕ b) ⊕ x ⊗ t) (horner-plus p q x) ∙ both a b x (horner (F .ops) p x) (horner (F .ops) q x)
-
-  -- The value of a sum is the sum of the values.
-  pub value-plus : (p q : List K) (x : K) → value (F .ops) (plus (F .ops) p q) x ≡ value (F .ops) p x ⊕ value (F .ops) q x
-  value-plus p q x = value-horner (plus (F .ops) p q) x ∙ horner-plus p q x ∙ sym (ap₂ _⊕_ (value-horner p x) (value-horner q x))

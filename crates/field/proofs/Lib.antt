@@ -2,4 +2,3 @@ pub mod Ring
 pub mod Carried
 pub mod Firsts
 pub mod Horner
-pub mod Powers

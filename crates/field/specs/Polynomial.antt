@@ -15,12 +15,6 @@ terms o (c ∷ cs) x p = o .sum (o .product c p) (terms o cs x (o .product p x))
 unfoldable pub value : {F : Type 0} → Ops F → List F → F → F
 value o cs x = terms o cs x (o .unit)
 
--- The sum of two polynomials, coefficient by coefficient; where one has no more, the other's stay.
-unfoldable pub plus : {F : Type 0} → Ops F → List F → List F → List F
-plus o [] q = q
-plus o (a ∷ p) [] = a ∷ p
-plus o (a ∷ p) (b ∷ q) = o .sum a b ∷ plus o p q
-
 -- The first exponent from n on, below the order of α, whose power of α is a root.
 unfoldable pub first-root : {F : Type 0} → Ops F → List F → ℕ → Option ℕ
 first-root o cs n = first-of (λ k. o .same (value o cs (alpha-power o k)) (o .nought)) (o .order - n) n

@@ -60,8 +60,7 @@ reciprocal-some a positive = sym (ap (λ b. reciprocal-if b a) (ne-eqb a 0 (λ z
 reciprocal-law : (x : Power) → (x ≡ power-ops .nought → ⊥) → (y : Power) × (power-ops .reciprocal x ≡ Some y) × (power-ops .product x y ≡ power-ops .unit)
 reciprocal-law x ne =
     let a = x .bits in
-    let positive = not-zero x ne in
-    (
+    let positive = not-zero x ne in (
       element (inverse a),
       sym (reciprocal-some a positive),
       alike (product a (element (inverse a) .bits)) 1 (ap (product a) (stays (inverse a) (inverse-below a)) ∙ product-inverse a positive (x .byte)),

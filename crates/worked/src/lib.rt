@@ -4,5 +4,4 @@ ghost use Rattle.worked.specs.Sums.{Worked-sums};
 /// The worked sums hold: a theorem, with nothing to compute.
 pub fn worked_sums_stand()
     ensures { λ _. ⌜ Worked-sums ⌝ }
-{
-}
+{}

@@ -13,11 +13,10 @@ index-block-k c = omega (arith, place-below (c .args .depth .lanes) (c .args .la
 
 pub loop-k-again : need.loop-k-again
 loop-k-again c =
-    let at : ℕ → Dual = λ j. symbol (getD (c .args .block .now) ((254 - j) * c .args .depth .lanes + c .args .lane) 0) in
-    (
+    let at : ℕ → Dual = λ j. symbol (getD (c .args .block .now) ((254 - j) * c .args .depth .lanes + c .args .lane) 0) in (
       simp length-set (c .loop-k .inv .0),
       λ j h. ap (λ x. getD (set (c .loop-k .symbols) (c .loop-k .k) x) j (symbol 0)) (c .new .ensures)
-      ∙ fill-by-more at (c .loop-k .symbols) (c .loop-k .k) (symbol 0) (omega (arith, c .loop-k .inv .0)) (c .loop-k .inv .1) j h,
+          ∙ fill-by-more at (c .loop-k .symbols) (c .loop-k .k) (symbol 0) (omega (arith, c .loop-k .inv .0)) (c .loop-k .inv .1) j h,
     )
 
 pub returns : need.returns

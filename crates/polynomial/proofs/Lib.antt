@@ -1,0 +1,12 @@
+pub mod Clauses
+pub mod Entries
+pub mod Algebra
+pub mod Remainders
+pub mod Degrees
+pub mod Multiples
+pub mod Turns
+pub mod Factors
+pub mod Powers
+pub mod Sums
+pub mod Words
+pub mod Geometric
