@@ -1,0 +1,4 @@
+pub mod Blanks
+pub mod Commas
+pub mod Decimals
+pub mod Digits

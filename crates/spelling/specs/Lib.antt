@@ -1,0 +1,6 @@
+pub mod Bytes
+pub mod Columns
+pub mod Faults
+pub mod Lists
+pub mod Numbers
+pub mod Words
