@@ -25,7 +25,17 @@ fn exponents_added(m: u8, n: u8) -> u8
 fn exponent_negated(n: u8) -> u8
     ensures { λ r. ⌜ r ≡ (255 - n) % 255 ⌝ }
 {
-    (255 - n) % 255
+    (u8::MAX - n) % 255
+}
+
+/// The logarithm of an element, by its exponent.
+fn logarithm(element: Power) -> Logarithm
+    ensures { λ r. ⌜ r ≡ logarithm-of-power element ⌝ }
+{
+    match element.exponent() {
+        None => Logarithm::Star,
+        Some(number) => Logarithm::Of(Exponent { number }),
+    }
 }
 
 impl Exponent {
@@ -56,10 +66,7 @@ impl Logarithm {
     pub fn of_power(element: Power) -> Logarithm
         ensures { λ r. ⌜ r ≡ logarithm-of-power element ⌝ }
     {
-        match element.exponent() {
-            None => Logarithm::Star,
-            Some(number) => Logarithm::Of(Exponent { number }),
-        }
+        logarithm(element)
     }
 
     /// The same element in dual form.
@@ -85,7 +92,7 @@ pub impl Field for Logarithm as LogarithmField {
     }
 
     fn zero() -> Logarithm {
-        Logarithm::Star
+        Logarithm::of_power(Power::zero())
     }
 
     fn one() -> Logarithm {

@@ -7,7 +7,7 @@ use Rattle.power_form.proofs.Bounds.{exponent-below}
 use Rattle.exponent_form.specs.ExponentForm.{logarithm-if}
 use Rattle.exponent_form.specs.declared.element.Logarithm.the-variants.{Of}
 use Rattle.exponent_form.proofs.ExponentLaws.{exponent-equal, exponent-found}
-use Rattle.exponent_form.proofs.element.Logarithm.of_power.Needs as need
+use Rattle.exponent_form.proofs.logarithm.Needs as need
 
 pub ghost-result : need.ghost-result
 ghost-result c =
