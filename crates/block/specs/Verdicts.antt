@@ -1,10 +1,12 @@
 -- What a check of a block answers.
 use mathlib.Core.Path.{_≡_}
 use mathlib.Core.Bool.{Bool, true, not, cond}
-use mathlib.Core.List.{List}
+use mathlib.Core.List.{List, _++_}
 use Prim.Native.Nat.{ℕ, zero, suc, _+_, _<_, _≤_}
+use lib.Chars.{codes}
 use lib.Dec.{eqb}
 use lib.ListN.{length}
+use Rattle.std.specs.Written.{decimal}
 use Rattle.std.specs.declared.option.Option.{Option}
 use Rattle.std.specs.declared.option.Option.the-variants.{Some, None}
 use Rattle.std.specs.declared.result.Result.{Result}
@@ -44,6 +46,11 @@ found (Broken l j) = broken l j
 abbrev pub answer : Result Verdict BlockFault → Answer
 answer (Ok v) = checked (found v)
 answer (Err f) = refused (number f)
+
+-- What is found, as text: that all is zero, or the lane and the power of γ.
+abbrev pub shown-found : Found → List ℕ
+shown-found all-zero = codes "all"
+shown-found (broken l j) = decimal l ++ (codes " " ++ decimal j)
 
 -- The number of lanes, or the number of a refusal.
 pub data Told : Type 0 where

@@ -3,6 +3,7 @@ mod checking;
 mod depth;
 mod fault;
 mod lanes;
+mod shown;
 
 pub use checking::check;
 pub use depth::Depth;
@@ -10,3 +11,4 @@ pub use fault::BlockFault;
 pub use fault::Verdict;
 pub use lanes::depth_of;
 pub use lanes::interleaving_stands;
+pub use shown::VerdictDisplay;

@@ -15,9 +15,11 @@ use Rattle.requests.specs.declared.request.Question.{Question}
 use Rattle.requests.specs.declared.request.Question.the-variants.{Constants, Operate, Evaluate, Divide, Root}
 use Rattle.spelling.specs.Lists.{writtenList}
 
--- Words with one blank between.
-abbrev pub blank : List ℕ → List ℕ → List ℕ
-blank a b = a ++ 32 ∷ b
+-- A text and a word behind it, with a blank between.
+abbrev pub _and_ : List ℕ → List ℕ → List ℕ
+text and word = text ++ (32 ∷ word)
+
+infixl 40 _and_
 
 -- What stands in an option, written, or the word none.
 abbrev pub or-none : {A : Type 0} → (A → List ℕ) → Option A → List ℕ
@@ -31,24 +33,24 @@ yes-or-no false = codes "0"
 
 module _ {F : Type 0} (o : Ops F) (written : F → List ℕ) where
   abbrev pub constants-line : List ℕ
-  constants-line = codes "const = " ++ blank (written (o .nought)) (blank (written (o .unit)) (written (o .alpha)))
+  constants-line = codes "const =" and written (o .nought) and written (o .unit) and written (o .alpha)
 
   abbrev pub operate-line : F → F → List ℕ
   operate-line a b =
-      codes "op = " ++ blank (written (o .sum a b)) (blank (written (o .product a b)) (blank (or-none written (o .reciprocal a)) (yes-or-no (o .same a b))))
+      codes "op =" and written (o .sum a b) and written (o .product a b) and or-none written (o .reciprocal a) and yes-or-no (o .same a b)
 
   abbrev pub value-line : List F → F → List ℕ
-  value-line cs x = codes "eval = " ++ written (value o cs x)
+  value-line cs x = codes "eval =" and written (value o cs x)
 
   abbrev pub root-line : List F → ℕ → List ℕ
-  root-line cs n = codes "root = " ++ or-none decimal (first-root o cs n)
+  root-line cs n = codes "root =" and or-none decimal (first-root o cs n)
 
   -- The line tells what division leaves.
   pub record Divided-line (before by : List F) (line : List ℕ) : Type 0 where
     pub after : List F
     pub answer : Option (Unit {0})
     pub divided : Divided o before by after answer
-    pub told : line ≡ codes "div = " ++ or-none (λ _. writtenList written after) answer
+    pub told : line ≡ codes "div =" and or-none (λ _. writtenList written after) answer
 
   -- The line that answers a question.
   abbrev pub Replied : Question F → List ℕ → Type 0

@@ -3,6 +3,9 @@ mod element;
 mod tables;
 
 ghost use mathlib.Core.Path.{_≡_};
+ghost use Prim.Native.Nat.{_%_};
+ghost use lib.Count.{ones};
+ghost use Rattle.dual_form.specs.Dual.{trace as trace-of};
 ghost use Rattle.dual_form.specs.DualBasis.{Dual-basis};
 ghost use Rattle.dual_form.specs.DualForm.{symbol, power-of-dual, dual-of-power, dual-ops};
 pub use element::Dual;
@@ -17,6 +20,13 @@ fn symbol_with(byte: u8) -> Dual
     ensures { λ r. ⌜ r ≡ symbol byte ⌝ }
 {
     Dual { byte }
+}
+
+/// 1 where the byte has an odd number of bits 1, otherwise 0.
+fn parity(byte: u8) -> u8
+    ensures { λ r. ⌜ r ≡ ones byte % 2 ⌝ }
+{
+    (byte.count_ones() % 2) as u8
 }
 
 /// The sum: bit by bit, since a trace of a sum is the sum of the traces.
@@ -86,6 +96,13 @@ pub impl Field for Dual as DualField {
     fn same(self, other: Dual) -> bool {
         self.to_power().same(other.to_power())
     }
+}
+
+/// The trace of an element, 0 or 1.
+pub fn trace(element: Power) -> u8
+    ensures { λ r. ⌜ r ≡ trace-of (element .bits) ⌝ }
+{
+    parity(element.bits & 0xfe)
 }
 
 /// That the dual form is the traces and that the dual basis undoes it: a theorem, with nothing to compute.

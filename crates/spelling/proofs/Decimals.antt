@@ -14,6 +14,8 @@ use Rattle.std.proofs.shelf.Numerals.{Numerals, numerals-by-value, tells-by-ind
 use Rattle.std.proofs.shelf.Decimals.{decimal-value, decimal-some, digits-decimal, parses-back, first-decimal, decimal-digit}
 use Rattle.spelling.specs.declared.fault.Fault.{Fault}
 use Rattle.spelling.specs.declared.fault.Fault.the-variants.{Memory, Shape, Key, Digit, Half, Number, Long, Text}
+use Rattle.std.specs.Pieces.{Lacks}
+use Rattle.spelling.specs.Lists.{Single}
 use Rattle.spelling.specs.Numbers.{AllDigits, NoNumber, BadNumber}
 use Rattle.spelling.specs.Words.{Plain}
 use Rattle.std.proofs.str.Laws.{order}
@@ -66,3 +68,16 @@ no-number (Text at) most c t h n le small e = h
 -- and a number has a digit, and no blank
 pub plain-decimal : (n : ℕ) → n < 2 ^ 64 → Plain (decimal n)
 plain-decimal n small = (decimal-some n small, λ k lt e. let d = digits-decimal own n small k lt in omega arith)
+
+-- no byte of a number is below the digit zero
+pub decimal-lacks : (s n : ℕ) → s < 48 → n < 2 ^ 64 → Lacks s (decimal n)
+decimal-lacks s n low small k lt e = let d = digits-decimal own n small k lt in omega arith
+
+-- a number as text may stand in a list
+pub single-decimal : (n : ℕ) → n < 2 ^ 64 → Single (decimal n)
+single-decimal n small = record {
+  some = decimal-some n small;
+  no-blank = decimal-lacks 32 n (omega arith) small;
+  no-comma = decimal-lacks 44 n (omega arith) small;
+  no-dash = λ e. decimal-lacks 45 n (omega arith) small 0 (decimal-some n small) (ap (λ l. getD l 0 0) e);
+}

@@ -1,6 +1,7 @@
-//! Text as a console reads and writes it: words, numbers, bytes in hex, and lists of values that have a written form.
+//! Text as a console reads and writes it: words, numbers, bytes in hex, field elements in three forms, and lists of values that have a written form.
 pub mod fault;
 pub mod hex;
+pub mod kinds;
 pub mod list;
 pub mod numbers;
 pub mod piece;
@@ -12,6 +13,9 @@ pub use hex::byte;
 pub use hex::bytes;
 pub use hex::hex_bytes;
 pub use hex::write_byte;
+pub use kinds::DualSpelled;
+pub use kinds::LogarithmSpelled;
+pub use kinds::PowerSpelled;
 pub use list::read_list;
 pub use list::write_list;
 pub use numbers::number;
