@@ -24,7 +24,7 @@ plus-length o (a ∷ v) (b ∷ w) (suc n) hv hw = ap suc (plus-length o v w n (o
 
 module _ {K : Type 0} (F : Lawful K) (c : Code) where
   -- Each power of γ, taken as often as α has powers, is one.
-  gamma-turn : (j : ℕ) → power (F .ops) (gamma-power (F .ops) c j) (F .ops .order) ≡ F .ops .unit
+  pub gamma-turn : (j : ℕ) → power (F .ops) (gamma-power (F .ops) c j) (F .ops .order) ≡ F .ops .unit
   gamma-turn j = ap (λ x. power (F .ops) x (F .ops .order)) (power-product F (F .ops .alpha) (c .step) j) ∙ alpha-power-turn F (c .step * j)
 
   gamma-one : (j : ℕ) → 0 < F .ops .order → gamma-power (F .ops) c j ≡ F .ops .unit → (c .step * j) % F .ops .order ≡ 0

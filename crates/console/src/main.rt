@@ -51,7 +51,10 @@ fn run(rt: &LibcRuntime) -> Result<(), AnyError> {
             }
         }
     }
-    writeln!(output, "{answered} requests answered, {refused} lines refused")?;
+    writeln!(
+        output,
+        "{answered} requests answered, {refused} lines refused"
+    )?;
     output.flush()?;
     Ok(())
 }

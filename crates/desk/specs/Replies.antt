@@ -20,7 +20,6 @@ abbrev pub _and_ : List ℕ → List ℕ → List ℕ
 text and word = text ++ (32 ∷ word)
 
 infixl 40 _and_
-
 -- What stands in an option, written, or the word none.
 abbrev pub or-none : {A : Type 0} → (A → List ℕ) → Option A → List ℕ
 or-none w None = codes "none"

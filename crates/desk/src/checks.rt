@@ -27,7 +27,11 @@ fn declined_line(heap: Global, id: &str, number: u8) -> Result<String, AllocErro
 }
 
 /// The line that answers a check.
-fn verdict_line(heap: Global, id: &str, verdict: Result<Verdict, BlockFault>) -> Result<String, AllocError>
+fn verdict_line(
+    heap: Global,
+    id: &str,
+    verdict: Result<Verdict, BlockFault>,
+) -> Result<String, AllocError>
     ensures { λ r. ⌜ made r (λ s. string-bytes s ≡ check-line (now (id .entry)) (answer verdict)) ⌝ }
 {
     match verdict {

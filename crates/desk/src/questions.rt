@@ -77,7 +77,11 @@ fn value<F: Field + Spelled>(heap: Global, coefficients: &[F], x: F) -> Result<S
 }
 
 /// The first root from a given exponent on.
-fn root<F: Field + Spelled>(heap: Global, coefficients: &[F], from: usize) -> Result<String, AllocError>
+fn root<F: Field + Spelled>(
+    heap: Global,
+    coefficients: &[F],
+    from: usize,
+) -> Result<String, AllocError>
     ensures { λ r. ⌜ made r (λ s. string-bytes s ≡ root-line (F·Field .ops) (F·Spelled .written) (now (coefficients .entry)) from) ⌝ }
 {
     match first_root(coefficients, from) {
@@ -87,7 +91,11 @@ fn root<F: Field + Spelled>(heap: Global, coefficients: &[F], from: usize) -> Re
 }
 
 /// What division leaves in the buffer.
-fn remainder<F: Field + Spelled>(heap: Global, buffer: &mut [F], by: &[F]) -> Result<String, AllocError>
+fn remainder<F: Field + Spelled>(
+    heap: Global,
+    buffer: &mut [F],
+    by: &[F],
+) -> Result<String, AllocError>
     ensures { λ r. ⌜ made r (λ s. Divided-line (F·Field .ops) (F·Spelled .written) (now (buffer .entry)) (now (by .entry)) (string-bytes s)) ⌝ }
 {
     let mut polynomial = Polynomial::new(buffer);
@@ -102,14 +110,21 @@ fn remainder<F: Field + Spelled>(heap: Global, buffer: &mut [F], by: &[F]) -> Re
 }
 
 /// The line that answers a question, without its line feed.
-pub fn answer_question<F: Field + Spelled>(heap: Global, question: Question<F>) -> Result<String, AllocError>
+pub fn answer_question<F: Field + Spelled>(
+    heap: Global,
+    question: Question<F>,
+) -> Result<String, AllocError>
     ensures { λ r. ⌜ made r (λ s. Replied (F·Field .ops) (F·Spelled .written) question (string-bytes s)) ⌝ }
 {
     match question {
         Question::Constants => constants::<F>(heap),
         Question::Operate { a, b } => operate(heap, a, b),
         Question::Evaluate { coefficients, x } => value(heap, coefficients.as_slice(), x),
-        Question::Divide { mut buffer, by } => remainder(heap, buffer.as_mut_slice(), by.as_slice()),
+        Question::Divide { mut buffer, by } => remainder(
+            heap,
+            buffer.as_mut_slice(),
+            by.as_slice(),
+        ),
         Question::Root { coefficients, from } => root(heap, coefficients.as_slice(), from),
     }
 }

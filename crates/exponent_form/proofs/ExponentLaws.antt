@@ -49,11 +49,11 @@ of-power e =
     ap (λ a. logarithm-if (eqb a 0) a) (power-bits (e .number))
     ∙ logarithm-some (alpha-byte (e .number)) e (power-positive (e .number) (e .below)) (exponent-of-power (e .number) (e .below))
 
-forth : (x : Logarithm) → logarithm-of-power (power-of-logarithm x) ≡ x
+pub forth : (x : Logarithm) → logarithm-of-power (power-of-logarithm x) ≡ x
 forth Star = refl
 forth (Of e) = of-power e
 
-back : (p : Power) → power-of-logarithm (logarithm-of-power p) ≡ p
+pub back : (p : Power) → power-of-logarithm (logarithm-of-power p) ≡ p
 back p = at (eqb-tells (p .bits) 0)
   where
     at : ((eqb (p .bits) 0 ≡ true) × (p .bits ≡ 0)) ⊎ ((eqb (p .bits) 0 ≡ false) × (p .bits ≡ 0 → ⊥)) → power-of-logarithm (logarithm-of-power p) ≡ p

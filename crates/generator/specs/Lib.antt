@@ -1,0 +1,4 @@
+pub mod Generator
+pub mod Claims
+pub mod Forms
+pub mod Text
