@@ -2,9 +2,9 @@
 ghost use Prim.Native.Nat.{_<_};
 ghost use lib.ListN.{length};
 ghost use Rattle.std.specs.Options.{Cases as BySome};
-use spelling::Fault;
 use std::io;
 use std::io::BufRead;
+use tokens::Fault;
 
 /// The longest line that is kept; a longer one is read to its end and refused.
 const LONGEST: usize = 65536;

@@ -7,13 +7,13 @@ use desk::reply_to;
 use lines::Got;
 use lines::next_line;
 use lines::text_of;
-use spelling::Fault;
 use std::alloc::AllocError;
 use std::alloc::Global;
 use std::error::AnyError;
 use std::io::BufReader;
 use std::io::BufWriter;
 use std::io::Write;
+use tokens::Fault;
 
 /// What is said to the line that was read, which may be too long, or no text.
 fn said(heap: Global, number: u64, got: Got, line: &[u8]) -> Result<Reply, AllocError> {

@@ -11,9 +11,9 @@ use Rattle.power_form.specs.PowerForm.{power-ops}
 use Rattle.dual_form.specs.DualForm.{dual-ops}
 use Rattle.exponent_form.specs.ExponentForm.{logarithm-ops}
 use Rattle.block.specs.Verdicts.{Answer, checked, refused, shown-found, check-of}
-use Rattle.spelling.specs.Faults.{shownFault}
+use Rattle.tokens.specs.Faults.{shownFault}
 use Rattle.spelling.specs.Kinds.{powerText, dualText, logarithmText}
-use Rattle.spelling.specs.declared.fault.Fault.{Fault}
+use Rattle.tokens.specs.declared.fault.Fault.{Fault}
 use Rattle.requests.specs.Lines.{written, NoRequest}
 use Rattle.requests.specs.declared.requested.Request.{Request}
 use Rattle.requests.specs.declared.requested.Request.the-variants.{Check, AtPower, AtDual, AtExponent}

@@ -6,8 +6,8 @@ use mathlib.Core.Logic.{_⊎_}
 use Prim.Native.Nat.{ℕ}
 use lib.Dec.{eqb}
 use Rattle.std.specs.Of.String.{string-bytes}
-use Rattle.spelling.specs.declared.fault.Fault.{Fault}
-use Rattle.spelling.specs.declared.fault.Fault.the-variants.{Memory}
+use Rattle.tokens.specs.declared.fault.Fault.{Fault}
+use Rattle.tokens.specs.declared.fault.Fault.the-variants.{Memory}
 use Rattle.requests.specs.Lines.{written, NoRequest}
 use Rattle.requests.specs.declared.requested.Request.{Request}
 use Rattle.desk.specs.Lines.{Answered, refusal}

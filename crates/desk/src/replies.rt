@@ -7,10 +7,10 @@ ghost use Rattle.desk.specs.Said.{passed-over, Said};
 use crate::checks::answer_request;
 use crate::reply::Reply;
 use requests::read_request;
-use spelling::Fault;
-use spelling::fault::FaultDisplay;
 use std::alloc::AllocError;
 use std::alloc::Global;
+use tokens::Fault;
+use tokens::fault::FaultDisplay;
 
 /// The line that tells why the line with this number is no request.
 pub fn refusal(heap: Global, line: u64, fault: Fault) -> Result<String, AllocError>

@@ -1,4 +1,4 @@
--- What a refusal inside a function says of its own text. Assumes nothing.
+-- What a refusal inside a function says of its own text.
 use mathlib.Core.Path.{_≡_, _∙_}
 use mathlib.Core.Bool.{true}
 use mathlib.Core.Logic.{_⊎_, inl, inr, ⊎-elim}
@@ -8,10 +8,10 @@ use Rattle.std.specs.Results.{Cases, ErrBy, isErr}
 use Rattle.std.specs.declared.result.Result.{Result}
 use Rattle.std.specs.declared.result.Result.the-variants.{Ok, Err}
 use Rattle.std.proofs.shelf.Results.{cases-from-err}
-use Rattle.spelling.specs.declared.fault.Fault.{Fault}
-use Rattle.spelling.specs.declared.fault.Fault.the-variants.{Memory}
+use Rattle.tokens.specs.declared.fault.Fault.{Fault}
+use Rattle.tokens.specs.declared.fault.Fault.the-variants.{Memory}
 use Rattle.spelling.specs.Lists.{Single}
-use Rattle.spelling.specs.Words.{Plain}
+use Rattle.tokens.specs.Words.{Plain}
 
 module _ {T No : Type 0} (P : T → Type 0) where
   -- a refusal that is never for want of memory

@@ -1,4 +1,4 @@
--- Texts behind a verb and a kind that ask nothing. Assumes nothing.
+-- Texts behind a verb and a kind that ask nothing.
 use mathlib.Core.Path.{_≡_, refl, sym, ap, _∙_}
 use mathlib.Core.List.{List, [], _∷_, _++_}
 use Prim.Native.Nat.{ℕ, _^_, _<_}
@@ -8,8 +8,8 @@ use lib.ListN.{length, getD, length-append}
 use Rattle.std.specs.Of.Vec.{vec-items}
 use Rattle.std.specs.Written.{decimal}
 use Rattle.spelling.specs.Lists.{writtenList}
-use Rattle.spelling.specs.Words.{spaced, Plain}
-use Rattle.spelling.proofs.Blanks.{cut-once, lacks-told, unkeyed}
+use Rattle.tokens.specs.Words.{spaced, Plain}
+use Rattle.tokens.proofs.Blanks.{cut-once, lacks-told, unkeyed}
 use Rattle.requests.specs.declared.request.Question.{Question}
 use Rattle.requests.specs.declared.request.Question.the-variants.{Constants, Operate, Evaluate, Divide, Root}
 use Rattle.requests.specs.Lines.{InRange, asked, NoQuestion, Asking}

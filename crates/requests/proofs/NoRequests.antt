@@ -1,4 +1,4 @@
--- Lines that are no request. Assumes nothing.
+-- Lines that are no request.
 use mathlib.Core.Path.{_≡_, refl, sym, ap, subst, _∙_}
 use mathlib.Core.List.{List, _++_}
 use Prim.Native.Nat.{ℕ, _^_, _<_}
@@ -8,10 +8,10 @@ use Rattle.std.specs.Of.String.{string-bytes}
 use Rattle.std.specs.Of.Vec.{vec-items}
 use Rattle.std.specs.Pieces.{Lacks}
 use Rattle.std.specs.Written.{decimal}
-use Rattle.spelling.specs.Bytes.{shownBytes, Bytes}
+use Rattle.tokens.specs.Bytes.{shownBytes, Bytes}
 use Rattle.spelling.specs.Kinds.{powerText, dualText, logarithmText}
-use Rattle.spelling.specs.Words.{spaced, Plain}
-use Rattle.spelling.proofs.Blanks.{cut-once, lacks-told}
+use Rattle.tokens.specs.Words.{spaced, Plain}
+use Rattle.tokens.proofs.Blanks.{cut-once, lacks-told}
 use Rattle.requests.specs.declared.request.Question.{Question}
 use Rattle.requests.specs.declared.requested.Request.the-variants.{Check, AtPower, AtDual, AtExponent}
 use Rattle.requests.specs.Lines.{InRange, asked, NoQuestion, NoRequest, Asking}

@@ -6,10 +6,10 @@ use lib.Chars.{codes}
 use Rattle.std.specs.Of.String.{string-bytes}
 use Rattle.std.specs.Of.Vec.{vec-items}
 use Rattle.std.specs.Written.{decimal}
-use Rattle.spelling.specs.Bytes.{shownBytes, Bytes}
+use Rattle.tokens.specs.Bytes.{shownBytes, Bytes}
 use Rattle.spelling.specs.Kinds.{powerText, dualText, logarithmText}
 use Rattle.spelling.specs.Lists.{writtenList}
-use Rattle.spelling.specs.Words.{spaced, Plain}
+use Rattle.tokens.specs.Words.{spaced, Plain}
 use Rattle.requests.specs.declared.request.Question.{Question}
 use Rattle.requests.specs.declared.request.Question.the-variants.{Constants, Operate, Evaluate, Divide, Root}
 use Rattle.requests.specs.declared.requested.Request.{Request}

@@ -3,17 +3,17 @@ ghost use mathlib.Core.Path.{_≡_};
 ghost use mathlib.Core.Logic.{_⊎_};
 ghost use lib.Chars.{codes};
 ghost use Rattle.std.specs.Results.{Cases};
-ghost use Rattle.spelling.specs.declared.fault.Fault.the-variants.{Memory};
-ghost use Rattle.spelling.specs.Words.{Plain};
+ghost use Rattle.tokens.specs.declared.fault.Fault.the-variants.{Memory};
+ghost use Rattle.tokens.specs.Words.{Plain};
 ghost use Rattle.requests.specs.Lines.{Asks, NoQuestion};
 use crate::request::Question;
-use spelling::Fault;
-use spelling::Piece;
 use spelling::Spelled;
-use spelling::number;
 use spelling::read_list;
-use spelling::word;
 use std::alloc::Global;
+use tokens::Fault;
+use tokens::Piece;
+use tokens::number;
+use tokens::word;
 
 /// `op K a b`, behind the kind.
 fn operate<F: Spelled>(piece: Piece<'_>) -> Result<Question<F>, Fault>

@@ -3,23 +3,23 @@ ghost use mathlib.Core.Path.{_≡_};
 ghost use mathlib.Core.Logic.{_⊎_};
 ghost use lib.Chars.{codes};
 ghost use Rattle.std.specs.Results.{Cases};
-ghost use Rattle.spelling.specs.declared.fault.Fault.the-variants.{Memory};
-ghost use Rattle.spelling.specs.Words.{spaced};
+ghost use Rattle.tokens.specs.declared.fault.Fault.the-variants.{Memory};
+ghost use Rattle.tokens.specs.Words.{spaced};
 ghost use Rattle.requests.specs.Lines.{Asking, written, NoRequest};
 use crate::questions::question;
 use crate::request::Question;
 use crate::requested::Request;
 use spelling::DualSpelled;
-use spelling::Fault;
 use spelling::LogarithmSpelled;
-use spelling::Piece;
 use spelling::PowerSpelled;
-use spelling::bytes;
-use spelling::fault::FaultFromAlloc;
-use spelling::keyed;
-use spelling::number;
-use spelling::word;
 use std::alloc::Global;
+use tokens::Fault;
+use tokens::Piece;
+use tokens::bytes;
+use tokens::fault::FaultFromAlloc;
+use tokens::keyed;
+use tokens::number;
+use tokens::word;
 
 /// The question of a verb at the kind that the next word names.
 fn question_at(heap: Global, verb: &str, piece: Piece<'_>) -> Result<Request, Fault>

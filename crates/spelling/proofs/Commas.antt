@@ -1,4 +1,4 @@
--- A list's text, one element more or less. Assumes nothing.
+-- A list's text, one element more or less.
 use mathlib.Core.Path.{_≡_, refl, sym, ap, _∙_}
 use mathlib.Core.List.{List, [], _∷_, _++_, append-assoc, append-nil}
 use Prim.Native.Nat.{ℕ, _+_, _-_, _<_, _≤_}
@@ -7,8 +7,8 @@ use lib.ListN.{length, getD, take, drop, length-append}
 use Rattle.std.proofs.shelf.Lists.{take-all, take-more}
 use Rattle.std.specs.Pieces.{Lacks}
 use Rattle.spelling.specs.Lists.{Single, others, writtenList, NoList}
-use Rattle.spelling.specs.Words.{Plain}
-use Rattle.spelling.proofs.Blanks.{cut-once, no-cut, lacks-cons, lacks-append, lacks-told}
+use Rattle.tokens.specs.Words.{Plain}
+use Rattle.tokens.proofs.Blanks.{cut-once, no-cut, lacks-cons, lacks-append, lacks-told}
 
 module _ {A : Type 0} (written : A → List ℕ) where
   -- each with a comma behind it

@@ -1,4 +1,2 @@
-pub mod Blanks
 pub mod Commas
-pub mod Decimals
-pub mod Digits
+pub mod Singles

@@ -6,7 +6,7 @@ use Rattle.power_form.specs.declared.element.Power.{Power}
 use Rattle.dual_form.specs.declared.element.Dual.{Dual}
 use Rattle.exponent_form.specs.declared.element.Logarithm.{Logarithm}
 use Rattle.exponent_form.specs.declared.element.Logarithm.the-variants.{Star, Of}
-use Rattle.spelling.specs.Bytes.{twoDigits}
+use Rattle.tokens.specs.Bytes.{twoDigits}
 
 -- the two hex digits of its bits
 abbrev pub powerText : Power → List ℕ

@@ -6,19 +6,19 @@ ghost use Rattle.std.specs.Of.String.{string-bytes};
 ghost use Rattle.std.specs.Results.{Cases};
 ghost use Rattle.std.specs.Vec.{made};
 ghost use Rattle.std.specs.Written.{decimal};
-ghost use Rattle.spelling.specs.Bytes.{twoDigits};
+ghost use Rattle.tokens.specs.Bytes.{twoDigits};
 ghost use Rattle.spelling.specs.Kinds.{powerText, dualText, logarithmText};
-use crate::fault::Fault;
-use crate::hex::byte;
-use crate::hex::write_byte;
-use crate::numbers::number;
-use crate::piece::Piece;
 use crate::spelled::Spelled;
 use dual_form::Dual;
 use exponent_form::Exponent;
 use exponent_form::Logarithm;
 use power_form::Power;
 use std::alloc::AllocError;
+use tokens::fault::Fault;
+use tokens::hex::byte;
+use tokens::hex::write_byte;
+use tokens::numbers::number;
+use tokens::piece::Piece;
 
 /// The byte of two hex digits.
 fn two_digits(piece: Piece<'_>) -> Result<u8, Fault>

@@ -7,15 +7,15 @@ ghost use Rattle.std.specs.Of.String.{string-bytes};
 ghost use Rattle.std.specs.Of.Vec.{vec-items};
 ghost use Rattle.std.specs.Results.{Cases};
 ghost use Rattle.std.specs.Vec.{made};
-ghost use Rattle.spelling.specs.declared.fault.Fault.the-variants.{Memory};
+ghost use Rattle.tokens.specs.declared.fault.Fault.the-variants.{Memory};
 ghost use Rattle.spelling.specs.Lists.{writtenList, NoList};
-use crate::fault::Fault;
-use crate::fault::FaultFromAlloc;
-use crate::fault::FaultFromRefused;
-use crate::piece::Piece;
 use crate::spelled::Spelled;
 use std::alloc::AllocError;
 use std::alloc::Global;
+use tokens::fault::Fault;
+use tokens::fault::FaultFromAlloc;
+use tokens::fault::FaultFromRefused;
+use tokens::piece::Piece;
 
 /// The values that the text lists: `-` is none.
 pub fn read_list<S: Spelled>(heap: Global, piece: Piece<'_>) -> Result<Vec<S>, Fault>

@@ -6,9 +6,9 @@ ghost use Rattle.std.specs.Of.String.{string-bytes};
 ghost use Rattle.std.specs.Results.{Cases};
 ghost use Rattle.std.specs.Vec.{made};
 ghost use Rattle.spelling.specs.Lists.{Single};
-use crate::fault::Fault;
-use crate::piece::Piece;
 use std::alloc::AllocError;
+use tokens::fault::Fault;
+use tokens::piece::Piece;
 
 pub trait Spelled: Copy {
     ghost written: { Self → List ℕ };

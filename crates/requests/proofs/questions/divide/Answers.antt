@@ -1,4 +1,4 @@
-use Rattle.spelling.proofs.Blanks.{parted}
+use Rattle.tokens.proofs.Blanks.{parted}
 use Rattle.spelling.proofs.Commas.{plain-list}
 use Rattle.requests.proofs.Exits.{refused, handed-on}
 use Rattle.requests.proofs.NoQuestions.{no-divide}

@@ -1,4 +1,4 @@
-use Rattle.spelling.proofs.Blanks.{parted}
+use Rattle.tokens.proofs.Blanks.{parted}
 use Rattle.requests.proofs.Exits.{refused, one-word}
 use Rattle.requests.proofs.NoQuestions.{no-operate}
 use Rattle.requests.proofs.questions.operate.Needs as need

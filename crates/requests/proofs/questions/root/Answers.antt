@@ -1,7 +1,7 @@
 use native.Mathlib.Omega.{arith}
-use Rattle.spelling.proofs.Blanks.{parted}
+use Rattle.tokens.proofs.Blanks.{parted}
 use Rattle.spelling.proofs.Commas.{plain-list}
-use Rattle.spelling.proofs.Decimals.{no-number}
+use Rattle.tokens.proofs.Decimals.{no-number}
 use Rattle.requests.proofs.Exits.{refused, handed-on}
 use Rattle.requests.proofs.NoQuestions.{no-root}
 use Rattle.requests.proofs.questions.root.Needs as need

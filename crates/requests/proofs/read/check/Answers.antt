@@ -4,10 +4,10 @@ use Prim.Native.Nat.{ℕ, _<_, _^_}
 use native.Mathlib.Omega.{arith}
 use lib.Chars.{codes}
 use Rattle.std.specs.Written.{decimal}
-use Rattle.spelling.specs.Bytes.{shownBytes}
-use Rattle.spelling.specs.Words.{Plain}
-use Rattle.spelling.proofs.Blanks.{parted, plain-key, lacks-told, unkeyed}
-use Rattle.spelling.proofs.Decimals.{no-number, plain-decimal}
+use Rattle.tokens.specs.Bytes.{shownBytes}
+use Rattle.tokens.specs.Words.{Plain}
+use Rattle.tokens.proofs.Blanks.{parted, plain-key, lacks-told, unkeyed}
+use Rattle.tokens.proofs.Decimals.{no-number, plain-decimal}
 use Rattle.requests.proofs.Exits.{refused, handed-on}
 use Rattle.requests.proofs.NoRequests.{no-check}
 use Rattle.requests.proofs.read.check.Needs as need

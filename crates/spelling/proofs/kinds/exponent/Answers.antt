@@ -1,7 +1,7 @@
 use Prim.Native.Nat.{_≤_, _<_, _^_}
 use native.Mathlib.Omega.{arith}
 use Rattle.std.proofs.shelf.Results.{cases-from-err}
-use Rattle.spelling.proofs.Decimals.{no-number}
+use Rattle.tokens.proofs.Decimals.{no-number}
 use Rattle.spelling.proofs.kinds.exponent.Needs as need
 
 pub returns-in-Break-n : need.returns-in-Break-n

@@ -1,7 +1,7 @@
 use native.Mathlib.Omega.{arith}
 use borrow.Author.Needs.{needs}
 use Rattle.exponent_form.specs.declared.element.Logarithm.the-variants.{Star, Of}
-use Rattle.spelling.proofs.Decimals.{single-decimal}
+use Rattle.spelling.proofs.Singles.{single-decimal}
 use Rattle.spelling.proofs.kinds.LogarithmSpelled.the-impl.Needs as need
 
 pub plain-law : need.plain-law
