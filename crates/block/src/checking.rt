@@ -59,3 +59,26 @@ pub fn check(block: &[u8], depth: usize) -> Result<Verdict, BlockFault>
     }
     Ok(first_broken(block, depth))
 }
+
+#[cfg(test)]
+mod tests {
+    use super::*;
+    use crate::fault::BlockFaultDebug;
+    use crate::fault::BlockFaultPartialEq;
+    use crate::fault::VerdictDebug;
+    use crate::fault::VerdictPartialEq;
+    use std::test::Fail;
+    use std::test::check_eq;
+
+    #[test]
+    fn equal_symbols_until_one_is_altered() -> Result<(), Fail> {
+        let mut block = [0x7b; 255];
+        check_eq(check(&block, 1), Ok(Verdict::Codewords))?;
+        block[0] = 0;
+        let lane = 0;
+        let root = 112;
+        check_eq(check(&block, 1), Ok(Verdict::Broken { lane, root }))?;
+        check_eq(check(&block, 2), Err(BlockFault::BlockLength))?;
+        check_eq(check(&block, 6), Err(BlockFault::NoDepth))
+    }
+}

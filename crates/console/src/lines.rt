@@ -30,7 +30,7 @@ fn line_feed(bytes: &[u8]) -> Option<usize>
 }
 
 /// Reads a line, without its line feed, behind what the buffer holds.
-pub fn next_line<R: BufRead>(input: &mut R, line: &mut Vec<u8>) -> io::Result<Got> {
+pub(crate) fn next_line<R: BufRead>(input: &mut R, line: &mut Vec<u8>) -> io::Result<Got> {
     let mut any = false;
     let mut long = false;
     for _ in 0..u64::MAX {
@@ -63,7 +63,7 @@ pub fn next_line<R: BufRead>(input: &mut R, line: &mut Vec<u8>) -> io::Result<Go
 }
 
 /// The text of a line, without a carriage return at its end.
-pub fn text_of(line: &[u8]) -> Result<&str, Fault> {
+pub(crate) fn text_of(line: &[u8]) -> Result<&str, Fault> {
     let line = match line {
         [front @ .., b'\r'] => front,
         all => all,
