@@ -1,2 +1,3 @@
 pub mod Registers
 pub mod Messages
+pub mod Zeros
