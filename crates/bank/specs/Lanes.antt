@@ -35,6 +35,10 @@ abbrev pub answer : {T : Type 0} → Result T BankFault → ℕ
 answer (Ok x) = 0
 answer (Err f) = number f
 
+-- The number of the answer to a call for a register that is there, or is not.
+abbrev pub answer-if : Bool → ℕ
+answer-if there = cond there 0 (number NoSuchRegister)
+
 -- There is such a lane.
 abbrev pub lane-there : Lanes → ℕ → Bool
 lane-there ls lane = ltb lane (length ls)

@@ -1,9 +1,8 @@
 //! Many symbols taken into one lane, and two banks fed alike.
 ghost use mathlib.Core.Path.{_≡_};
-ghost use mathlib.Core.Bool.{cond};
 ghost use Prim.Native.Nat.{_<_};
 ghost use lib.ListN.{length};
-ghost use Rattle.bank.specs.Lanes.{answer as answered, lane-there, all-fed, told};
+ghost use Rattle.bank.specs.Lanes.{answer as answered, answer-if, lane-there, all-fed, told};
 use crate::Bank;
 use crate::BankFault;
 
@@ -19,7 +18,7 @@ fn feed<B: Bank>(bank: &mut B, lane: usize, bytes: &[u8])
 
 /// Takes the symbols with these bytes into a lane, in their order.
 pub fn take_all<B: Bank>(bank: &mut B, lane: usize, bytes: &[u8]) -> Result<(), BankFault>
-    ensures answer { λ r. ⌜ answered r ≡ cond (lane-there (B·Bank .lanes (now (bank .entry))) lane) 0 2 ⌝ }
+    ensures answer { λ r. ⌜ answered r ≡ answer-if (lane-there (B·Bank .lanes (now (bank .entry))) lane) ⌝ }
     ensures after { λ _. ⌜ B·Bank .lanes (now (bank .exit)) ≡ all-fed (B·Bank .lanes (now (bank .entry))) lane (now (bytes .entry)) ⌝ }
 {
     if lane >= bank.count() {

@@ -1,11 +1,10 @@
 //! A bank with a copy of its registers beside it.
 ghost use mathlib.Core.Path.{_≡_};
-ghost use mathlib.Core.Bool.{cond};
 ghost use mathlib.Core.List.{[], map};
 ghost use Prim.Native.Nat.{_<_};
 ghost use lib.ListN.{length, getD, set};
 ghost use Rattle.dual_form.specs.DualForm.{symbol};
-ghost use Rattle.bank.specs.Lanes.{answer as answered, lane-there, place-there, all-cleared, fed, placed, held};
+ghost use Rattle.bank.specs.Lanes.{answer as answered, answer-if, lane-there, place-there, all-cleared, fed, placed, held};
 use crate::Bank;
 use crate::BankFault;
 use crate::LANES;
@@ -106,7 +105,7 @@ fn clear_bank<B: Bank>(holder: &mut Holder<B>)
 
 /// Takes a symbol into the bank of a holder and leaves the copy.
 fn take_into_bank<B: Bank>(holder: &mut Holder<B>, lane: usize, byte: u8) -> Result<(), BankFault>
-    ensures answer { λ r. ⌜ answered r ≡ cond (lane-there (B·Bank .lanes (now (holder .entry) .bank)) lane) 0 2 ⌝ }
+    ensures answer { λ r. ⌜ answered r ≡ answer-if (lane-there (B·Bank .lanes (now (holder .entry) .bank)) lane) ⌝ }
     ensures after { λ _. ⌜ B·Bank .lanes (now (holder .exit) .bank) ≡ fed (B·Bank .lanes (now (holder .entry) .bank)) lane byte ⌝ }
     ensures copy { λ _. ⌜ held (B·Bank .lanes (now (holder .exit) .bank)) (now (holder .exit) .copy) ≡ held (B·Bank .lanes (now (holder .entry) .bank)) (now (holder .entry) .copy) ⌝ }
 {
@@ -120,7 +119,7 @@ fn set_in_bank<B: Bank>(
     place: usize,
     byte: u8,
 ) -> Result<(), BankFault>
-    ensures answer { λ r. ⌜ answered r ≡ cond (place-there (B·Bank .lanes (now (holder .entry) .bank)) lane place) 0 2 ⌝ }
+    ensures answer { λ r. ⌜ answered r ≡ answer-if (place-there (B·Bank .lanes (now (holder .entry) .bank)) lane place) ⌝ }
     ensures after { λ _. ⌜ B·Bank .lanes (now (holder .exit) .bank) ≡ placed (B·Bank .lanes (now (holder .entry) .bank)) lane place byte ⌝ }
     ensures copy { λ _. ⌜ held (B·Bank .lanes (now (holder .exit) .bank)) (now (holder .exit) .copy) ≡ held (B·Bank .lanes (now (holder .entry) .bank)) (now (holder .entry) .copy) ⌝ }
 {
@@ -142,7 +141,7 @@ pub impl<B: Bank> Bank for Holder<B> as HolderBank {
     }
 
     fn take(&mut self, lane: usize, byte: u8) -> Result<(), BankFault>
-        ensures answer { λ r. ⌜ answered r ≡ cond (lane-there (B·Bank .lanes (now (self .entry) .bank)) lane) 0 2 ⌝ }
+        ensures answer { λ r. ⌜ answered r ≡ answer-if (lane-there (B·Bank .lanes (now (self .entry) .bank)) lane) ⌝ }
         ensures after { λ _. ⌜ B·Bank .lanes (now (self .exit) .bank) ≡ fed (B·Bank .lanes (now (self .entry) .bank)) lane byte ⌝ }
         ensures copy { λ _. ⌜ held (B·Bank .lanes (now (self .exit) .bank)) (now (self .exit) .copy) ≡ held (B·Bank .lanes (now (self .entry) .bank)) (now (self .entry) .copy) ⌝ }
     {
@@ -154,7 +153,7 @@ pub impl<B: Bank> Bank for Holder<B> as HolderBank {
     }
 
     fn set(&mut self, lane: usize, place: usize, byte: u8) -> Result<(), BankFault>
-        ensures answer { λ r. ⌜ answered r ≡ cond (place-there (B·Bank .lanes (now (self .entry) .bank)) lane place) 0 2 ⌝ }
+        ensures answer { λ r. ⌜ answered r ≡ answer-if (place-there (B·Bank .lanes (now (self .entry) .bank)) lane place) ⌝ }
         ensures after { λ _. ⌜ B·Bank .lanes (now (self .exit) .bank) ≡ placed (B·Bank .lanes (now (self .entry) .bank)) lane place byte ⌝ }
         ensures copy { λ _. ⌜ held (B·Bank .lanes (now (self .exit) .bank)) (now (self .exit) .copy) ≡ held (B·Bank .lanes (now (self .entry) .bank)) (now (self .entry) .copy) ⌝ }
     {

@@ -5,10 +5,9 @@ mod holder;
 mod pair;
 
 ghost use mathlib.Core.Path.{_≡_};
-ghost use mathlib.Core.Bool.{cond};
 ghost use lib.ListN.{length};
 ghost use Rattle.bank.specs.Claims.{Banks};
-ghost use Rattle.bank.specs.Lanes.{Lanes, Shaped, answer as answered, lane-there, place-there, all-cleared, fed, placed, told};
+ghost use Rattle.bank.specs.Lanes.{Lanes, Shaped, answer as answered, answer-if, lane-there, place-there, all-cleared, fed, placed, told};
 pub use fault::BankFault;
 pub use feeding::read_alike;
 pub use feeding::take_all;
@@ -41,7 +40,7 @@ pub trait Bank {
 
     /// Takes the symbol with this byte into a lane.
     fn take(&mut self, lane: usize, byte: u8) -> Result<(), BankFault>
-        ensures answer { λ r. ⌜ answered r ≡ cond (lane-there (lanes (now (self .entry))) lane) 0 2 ⌝ }
+        ensures answer { λ r. ⌜ answered r ≡ answer-if (lane-there (lanes (now (self .entry))) lane) ⌝ }
         ensures after { λ _. ⌜ lanes (now (self .exit)) ≡ fed (lanes (now (self .entry))) lane byte ⌝ };
 
     /// The byte of one register.
@@ -50,7 +49,7 @@ pub trait Bank {
 
     /// Puts the symbol with this byte into one register.
     fn set(&mut self, lane: usize, place: usize, byte: u8) -> Result<(), BankFault>
-        ensures answer { λ r. ⌜ answered r ≡ cond (place-there (lanes (now (self .entry))) lane place) 0 2 ⌝ }
+        ensures answer { λ r. ⌜ answered r ≡ answer-if (place-there (lanes (now (self .entry))) lane place) ⌝ }
         ensures after { λ _. ⌜ lanes (now (self .exit)) ≡ placed (lanes (now (self .entry))) lane place byte ⌝ };
 }
 

@@ -1,8 +1,7 @@
 //! Two banks as one.
 ghost use mathlib.Core.Path.{_≡_};
-ghost use mathlib.Core.Bool.{cond};
 ghost use lib.ListN.{length};
-ghost use Rattle.bank.specs.Lanes.{answer as answered, lane-there, place-there, all-cleared, fed, placed, told, beside};
+ghost use Rattle.bank.specs.Lanes.{answer as answered, answer-if, lane-there, place-there, all-cleared, fed, placed, told, beside};
 use crate::Bank;
 use crate::BankFault;
 use crate::LANES;
@@ -47,7 +46,7 @@ fn take_into<L: Bank, R: Bank>(
     lane: usize,
     byte: u8,
 ) -> Result<(), BankFault>
-    ensures answer { λ r. ⌜ answered r ≡ cond (lane-there (beside (L·Bank .lanes (now (left .entry))) (R·Bank .lanes (now (right .entry)))) lane) 0 2 ⌝ }
+    ensures answer { λ r. ⌜ answered r ≡ answer-if (lane-there (beside (L·Bank .lanes (now (left .entry))) (R·Bank .lanes (now (right .entry)))) lane) ⌝ }
     ensures after { λ _. ⌜ beside (L·Bank .lanes (now (left .exit))) (R·Bank .lanes (now (right .exit))) ≡ fed (beside (L·Bank .lanes (now (left .entry))) (R·Bank .lanes (now (right .entry)))) lane byte ⌝ }
 {
     if lane >= count_of(left, right) {
@@ -89,7 +88,7 @@ fn set_in<L: Bank, R: Bank>(
     place: usize,
     byte: u8,
 ) -> Result<(), BankFault>
-    ensures answer { λ r. ⌜ answered r ≡ cond (place-there (beside (L·Bank .lanes (now (left .entry))) (R·Bank .lanes (now (right .entry)))) lane place) 0 2 ⌝ }
+    ensures answer { λ r. ⌜ answered r ≡ answer-if (place-there (beside (L·Bank .lanes (now (left .entry))) (R·Bank .lanes (now (right .entry)))) lane place) ⌝ }
     ensures after { λ _. ⌜ beside (L·Bank .lanes (now (left .exit))) (R·Bank .lanes (now (right .exit))) ≡ placed (beside (L·Bank .lanes (now (left .entry))) (R·Bank .lanes (now (right .entry)))) lane place byte ⌝ }
 {
     if lane >= count_of(left, right) {
