@@ -1,0 +1,4 @@
+pub mod Coefficients
+pub mod Rows
+pub mod Forms
+pub mod Bits
