@@ -1,7 +1,8 @@
 pub mod RowProducts
 pub mod Coefficients
 pub mod Stepping
-pub mod Forms
+pub mod PowerLane
+pub mod DualLane
 pub mod OneLane
 pub mod Masks
 pub mod Serial

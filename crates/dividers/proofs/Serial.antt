@@ -10,7 +10,6 @@ use lib.Count.{ones, onesIn}
 use lib.Dec.{lit<}
 use lib.ListN.{getD}
 use lib.Pow.{pow-mono}
-use Rattle.table.specs.Computed.{tabulates}
 use Rattle.table.proofs.Tests.{agree, tabulated}
 use Rattle.power_form.specs.Arithmetic.{times-alpha, alpha-byte, scaled, product}
 use Rattle.power_form.proofs.Bounds.{power-below}

@@ -1,7 +1,7 @@
-use mathlib.Core.Path.{_≡_, refl, sym, ap, ap₂, _∙_}
+use mathlib.Core.Path.{refl, sym, ap, ap₂, _∙_}
 use Prim.Native.Nat.{_+_, _-_}
 use native.Mathlib.Omega.{arith}
-use lib.ListN.{getD, replicate}
+use lib.ListN.{getD}
 use Rattle.std.proofs.shelf.Lists.{getD-replicate}
 use Rattle.dividers.specs.Bits.{pushed}
 use Rattle.dividers.proofs.Serial.{pushed-next, pushed-none, pushed-all}

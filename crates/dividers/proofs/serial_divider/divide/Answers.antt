@@ -1,5 +1,5 @@
 use native.Mathlib.Omega.{arith}
-use Rattle.dividers.proofs.Forms.{dual-step}
+use Rattle.dividers.proofs.DualLane.{dual-step}
 use Rattle.dividers.proofs.serial_divider.divide.Needs as need
 
 pub returns : need.returns

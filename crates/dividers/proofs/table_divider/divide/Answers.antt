@@ -1,5 +1,5 @@
 use native.Mathlib.Omega.{arith}
-use Rattle.dividers.proofs.Forms.{power-step}
+use Rattle.dividers.proofs.PowerLane.{power-step}
 use Rattle.dividers.proofs.table_divider.divide.Needs as need
 
 pub returns : need.returns

@@ -1,5 +1,5 @@
 use mathlib.Core.Path.{_∙_}
-use Rattle.dividers.proofs.Forms.{dual-wide}
+use Rattle.dividers.proofs.DualLane.{dual-wide}
 use Rattle.dividers.proofs.OneLane.{one-shaped}
 use Rattle.dividers.proofs.serial_divider.SerialBank.the-impl.Needs as need
 

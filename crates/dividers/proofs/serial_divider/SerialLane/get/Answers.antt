@@ -1,7 +1,7 @@
 use mathlib.Core.Path.{subst, _∙_}
 use Prim.Native.Nat.{_<_}
 use native.Mathlib.Omega.{arith}
-use Rattle.dividers.proofs.Forms.{dual-read}
+use Rattle.dividers.proofs.DualLane.{dual-read}
 use Rattle.dividers.proofs.serial_divider.SerialLane.get.Needs as need
 
 pub returns : need.returns

@@ -1,6 +1,6 @@
 use mathlib.Core.Path.{ap, _∙_}
 use Rattle.dividers.specs.Forms.{dual-lane}
-use Rattle.dividers.proofs.Forms.{dual-zeros}
+use Rattle.dividers.proofs.DualLane.{dual-zeros}
 use Rattle.dividers.proofs.serial_divider.SerialLane.reset.Needs as need
 
 pub returns : need.returns

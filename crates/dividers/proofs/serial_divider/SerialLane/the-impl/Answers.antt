@@ -1,5 +1,5 @@
 use mathlib.Core.Path.{_∙_}
-use Rattle.dividers.proofs.Forms.{dual-wide}
+use Rattle.dividers.proofs.DualLane.{dual-wide}
 use Rattle.dividers.proofs.serial_divider.SerialLane.the-impl.Needs as need
 
 pub wide-law : need.wide-law

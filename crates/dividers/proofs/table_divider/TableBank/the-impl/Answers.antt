@@ -1,5 +1,5 @@
 use mathlib.Core.Path.{_∙_}
-use Rattle.dividers.proofs.Forms.{power-wide}
+use Rattle.dividers.proofs.PowerLane.{power-wide}
 use Rattle.dividers.proofs.OneLane.{one-shaped}
 use Rattle.dividers.proofs.table_divider.TableBank.the-impl.Needs as need
 

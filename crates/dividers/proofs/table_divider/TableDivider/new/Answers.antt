@@ -1,7 +1,7 @@
 use mathlib.Core.Path.{ap, _∙_}
 use mathlib.Core.List.{[], _∷_}
 use Rattle.dividers.specs.Forms.{power-lane}
-use Rattle.dividers.proofs.Forms.{power-zeros}
+use Rattle.dividers.proofs.PowerLane.{power-zeros}
 use Rattle.dividers.proofs.table_divider.TableDivider.new.Needs as need
 
 pub returns : need.returns

@@ -1,7 +1,7 @@
 use mathlib.Core.Path.{ap, _∙_}
 use native.Mathlib.Omega.{arith}
 use Rattle.dividers.specs.Forms.{in-power-form}
-use Rattle.dividers.proofs.Forms.{power-read}
+use Rattle.dividers.proofs.PowerLane.{power-read}
 use Rattle.dividers.proofs.table_divider.TableLane.get.Needs as need
 
 pub returns : need.returns

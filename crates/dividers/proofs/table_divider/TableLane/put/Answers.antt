@@ -1,7 +1,7 @@
 use mathlib.Core.Path.{ap, _∙_}
 use lib.ListN.{set}
 use Rattle.dividers.specs.Forms.{power-lane}
-use Rattle.dividers.proofs.Forms.{power-set}
+use Rattle.dividers.proofs.PowerLane.{power-set}
 use Rattle.dividers.proofs.table_divider.TableLane.put.Needs as need
 
 pub returns : need.returns
