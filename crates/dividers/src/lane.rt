@@ -1,13 +1,12 @@
 //! A bank of one lane, from what its registers can do.
 ghost use mathlib.Core.Path.{_≡_};
-ghost use mathlib.Core.Bool.{cond};
 ghost use mathlib.Core.List.{List, [], _∷_};
 ghost use Prim.Native.Nat.{_<_};
 ghost use lib.ListN.{length, set};
 ghost use Rattle.polynomial.specs.Coefficients.{coeff};
 ghost use Rattle.dual_form.specs.DualForm.{symbol, dual-ops};
 ghost use Rattle.dual_form.specs.declared.element.Dual.{Dual as Symbol};
-ghost use Rattle.bank.specs.Lanes.{answer as answered, lane-there, place-there, zeros, stepped, fed, placed, told};
+ghost use Rattle.bank.specs.Lanes.{answer as answered, answer-if, lane-there, place-there, zeros, stepped, fed, placed, told};
 use bank::BankFault;
 use bank::REGISTERS;
 
@@ -42,7 +41,7 @@ pub(crate) trait Lane {
 
 /// Takes the symbol with this byte into lane 0, the only one.
 pub(crate) fn take_into<L: Lane>(one: &mut L, lane: usize, byte: u8) -> Result<(), BankFault>
-    ensures answer { λ r. ⌜ answered r ≡ cond (lane-there (L·Lane .held (now (one .entry)) ∷ []) lane) 0 2 ⌝ }
+    ensures answer { λ r. ⌜ answered r ≡ answer-if (lane-there (L·Lane .held (now (one .entry)) ∷ []) lane) ⌝ }
     ensures after { λ _. ⌜ L·Lane .held (now (one .exit)) ∷ [] ≡ fed (L·Lane .held (now (one .entry)) ∷ []) lane byte ⌝ }
 {
     if lane != 0 {
@@ -69,7 +68,7 @@ pub(crate) fn set_in<L: Lane>(
     place: usize,
     byte: u8,
 ) -> Result<(), BankFault>
-    ensures answer { λ r. ⌜ answered r ≡ cond (place-there (L·Lane .held (now (one .entry)) ∷ []) lane place) 0 2 ⌝ }
+    ensures answer { λ r. ⌜ answered r ≡ answer-if (place-there (L·Lane .held (now (one .entry)) ∷ []) lane place) ⌝ }
     ensures after { λ _. ⌜ L·Lane .held (now (one .exit)) ∷ [] ≡ placed (L·Lane .held (now (one .entry)) ∷ []) lane place byte ⌝ }
 {
     if lane != 0 || place >= REGISTERS {
