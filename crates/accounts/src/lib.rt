@@ -1,4 +1,6 @@
 //! The lines that give account of messages and blocks that have come in.
+#![tactic(auto)]
+
 mod hex;
 mod items;
 mod receiving;

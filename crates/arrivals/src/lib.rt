@@ -1,4 +1,6 @@
 //! Requests about received blocks and messages as lines of text: which line is which request.
+#![tactic(auto)]
+
 mod arrival;
 mod read;
 mod words;

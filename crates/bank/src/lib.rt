@@ -1,4 +1,6 @@
 //! Banks: 1 to 8 lanes of the registers of dividers. Two banks stand side by side as one, and a bank can hold a copy of its registers.
+#![tactic(auto)]
+
 mod fault;
 mod feeding;
 mod holder;

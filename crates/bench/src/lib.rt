@@ -1,4 +1,6 @@
 //! Calls on a bank, and the lines that answer them.
+#![tactic(auto)]
+
 mod calls;
 mod registers;
 

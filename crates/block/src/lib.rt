@@ -1,4 +1,6 @@
 //! Blocks: their depth, their lanes, and the check that each lane is a codeword.
+#![tactic(auto)]
+
 mod checking;
 mod depth;
 mod fault;

@@ -1,4 +1,6 @@
 //! The (255,223) code: the powers of γ, and what holds of its codewords in every kind of field element.
+#![tactic(auto)]
+
 ghost use Rattle.std.specs.Prelude.{◌≡◌};
 ghost use Rattle.field.specs.Field.{alpha_power};
 ghost use Rattle.code.specs.Claims.{Codewords};
@@ -20,19 +22,19 @@ pub const CHECKS: u8 = 32;
 
 /// γ.
 pub fn gamma<F: Field>() -> F
-    ensures { result ≡ alpha_power ops telemetry.step }
+    ensures { result ≡ alpha_power F.ops telemetry.step }
 {
     power(F::alpha(), GAMMA)
 }
 
 /// γ to the power j.
 pub fn gamma_to<F: Field>(j: u8) -> F
-    ensures { result ≡ gamma_power ops telemetry j }
+    ensures { result ≡ gamma_power F.ops telemetry j }
 {
     power(gamma(), j)
 }
 
 /// Equal symbols are a codeword, and so is the sum of two codewords: a theorem, with nothing to compute.
 pub fn codewords_stand<F: Field>()
-    ensures { Codewords ops }
+    ensures { Codewords F.ops }
 {}

@@ -1,4 +1,6 @@
 //! Prints the exponents of the generator's coefficients in one line, that of the lowest power first.
+#![tactic(auto)]
+
 use generator::coefficients_line;
 
 fn run(rt: &HostRuntime) -> anyhow::Result<()> {

@@ -1,5 +1,7 @@
 //! Correction of one codeword of the (255,223) code, in any kind of field element: the codeword that differs from a word in at most 16
 //! symbols, or the news that there is none.
+#![tactic(auto)]
+
 mod recurrence;
 mod repair;
 mod syndromes;
@@ -31,7 +33,7 @@ pub struct NoCodeword;
 
 /// At most one codeword is within the limit of a word: a theorem, with nothing to compute.
 pub fn one_codeword_stands<F: Field>()
-    ensures { OneCodeword ops }
+    ensures { OneCodeword F.ops }
 {}
 
 /// Whether so many symbols can be corrected.
@@ -54,11 +56,11 @@ fn remove_errors<F: Field>(
     requires long { length word.old ≡ 255 }
     requires syndromes_long { length syndromes.now ≡ 32 }
     requires poly_long { length poly.now ≡ 33 }
-    requires base_is { base ≡ alpha_power ops telemetry.step }
-    requires lead_is { lead ≡ gamma_power ops telemetry telemetry.first }
+    requires base_is { base ≡ alpha_power F.ops telemetry.step }
+    requires lead_is { lead ≡ gamma_power F.ops telemetry telemetry.first }
     requires few { degree + degree ≤ telemetry.checks }
-    requires above { (i : ℕ) → degree < i → coeff ops poly.now i ≡ ops.nought }
-    ensures { Removed ops telemetry poly.now degree (coeff ops syndromes.now) word.old word.new result }
+    requires above { (i : ℕ) → degree < i → coeff F.ops poly.now i ≡ F.ops.nought }
+    ensures { Removed F.ops telemetry poly.now degree (coeff F.ops syndromes.now) word.old word.new result }
 {
     let mut left = *syndromes;
     let mut terms = *poly;
@@ -77,7 +79,7 @@ fn remove_errors<F: Field>(
 /// Corrects a word that leaves this remainder. None, with the word in any state, where no codeword is within the limit.
 fn try_correct<F: Field>(word: &mut [F; SYMBOLS], remainder: &[F; CHECKS]) -> Option<usize>
     requires { length word.old ≡ 255 }
-    ensures { ops.order ≡ telemetry.symbols → Leaves ops telemetry word.old remainder.now → Tried ops telemetry word.old word.new result }
+    ensures { F.ops.order ≡ telemetry.symbols → Leaves F.ops telemetry word.old remainder.now → Tried F.ops telemetry word.old word.new result }
 {
     let base = gamma();
     let lead = gamma_to(FIRST_ROOT);
@@ -103,7 +105,7 @@ pub fn correct<F: Field>(
     word: &mut [F; SYMBOLS],
     remainder: &[F; CHECKS],
 ) -> Result<usize, NoCodeword>
-    ensures { ops.order ≡ telemetry.symbols → Leaves ops telemetry word.old remainder.now → Corrected ops telemetry word.old word.new result }
+    ensures { F.ops.order ≡ telemetry.symbols → Leaves F.ops telemetry word.old remainder.now → Corrected F.ops telemetry word.old word.new result }
 {
     let mut work = *word;
     symbols_of(work);
@@ -122,7 +124,7 @@ fn copy_low<F: Field>(out: &mut [F; CHECKS], from: &[F])
     requires long { length out.old ≡ 32 }
     requires room { 32 ≤ length from.now }
     ensures long { length out.new ≡ 32 }
-    ensures low { (k : ℕ) → k < 32 → coeff ops out.new k ≡ coeff ops from.now k }
+    ensures low { (k : ℕ) → k < 32 → coeff F.ops out.new k ≡ coeff F.ops from.now k }
 {
     for k in 0..CHECKS {
         out[k] = from[k];
@@ -132,9 +134,9 @@ fn copy_low<F: Field>(out: &mut [F; CHECKS], from: &[F])
 /// Leaves the remainder of the buffer by the generator in `out`, and in the buffer, with zeros above it.
 fn remainder_into<F: Field>(buffer: &mut [F], by: &[F; COEFFICIENTS], out: &mut [F; CHECKS])
     requires room { 32 ≤ length buffer.old }
-    requires divisor { by.now ≡ generator_of ops telemetry }
+    requires divisor { by.now ≡ generator_of F.ops telemetry }
     requires long { length out.old ≡ 32 }
-    ensures { Leaves ops telemetry buffer.old out.new }
+    ensures { Leaves F.ops telemetry buffer.old out.new }
 {
     let Some(()) = divide(buffer, by) else {
         return;
@@ -145,7 +147,7 @@ fn remainder_into<F: Field>(buffer: &mut [F], by: &[F; COEFFICIENTS], out: &mut 
 /// Leaves in place of a word, C_0 first, the codeword that differs from it in at most 16 symbols, and answers in how many. Refuses, with the word as
 /// it was, where there is no such codeword.
 pub fn correct_word<F: Field>(word: &mut [F; SYMBOLS]) -> Result<usize, NoCodeword>
-    ensures { ops.order ≡ telemetry.symbols → Corrected ops telemetry word.old word.new result }
+    ensures { F.ops.order ≡ telemetry.symbols → Corrected F.ops telemetry word.old word.new result }
 {
     let mut work = *word;
     symbols_of(work);

@@ -18,8 +18,8 @@ pub(crate) struct Found<F> {
 fn apply<F: Field>(poly: &[F], n: usize, sequence: &[F], at: usize) -> F
     requires within { n ≤ length poly.now }
     requires room { at + n ≤ length sequence.now }
-    requires above { (i : ℕ) → n ≤ i → coeff ops poly.now i ≡ ops.nought }
-    ensures { result ≡ applied ops poly.now (coeff ops sequence.now) at }
+    requires above { (i : ℕ) → n ≤ i → coeff F.ops poly.now i ≡ F.ops.nought }
+    ensures { result ≡ applied F.ops poly.now (coeff F.ops sequence.now) at }
 {
     let mut sum = F::zero();
     for i in 0..n {
@@ -34,7 +34,7 @@ fn mend<F: Field>(poly: &mut [F; COEFFICIENTS], up: usize, f: F, old: &[F], n: u
     requires room { up + n ≤ 33 }
     requires within { n ≤ length old.now }
     ensures long { length poly.new ≡ 33 }
-    ensures sum { (i : ℕ) → coeff ops poly.new i ≡ ops.sum (coeff ops poly.old i) (ops.product f (coeff ops (shift ops up (take n old.now)) i)) }
+    ensures sum { (i : ℕ) → coeff F.ops poly.new i ≡ F.ops.sum (coeff F.ops poly.old i) (F.ops.product f (coeff F.ops (shift F.ops up (take n old.now)) i)) }
 {
     for j in 0..n {
         poly[up + j] = poly[up + j].plus(f.times(old[j]));
@@ -44,7 +44,7 @@ fn mend<F: Field>(poly: &mut [F; COEFFICIENTS], up: usize, f: F, old: &[F], n: u
 /// The coefficient of x^i in x^up times the polynomial.
 fn shifted<F: Field>(poly: &[F], up: usize, i: usize) -> F
     requires { i < length poly.now }
-    ensures { result ≡ coeff ops (shift ops up poly.now) i }
+    ensures { result ≡ coeff F.ops (shift F.ops up poly.now) i }
 {
     if i < up {
         return F::zero();
@@ -64,12 +64,12 @@ fn grow<F: Field>(
     requires long { length poly.old ≡ 33 }
     requires old_long { length old.old ≡ 33 }
     requires within { n ≤ 33 }
-    requires above { (i : ℕ) → n ≤ i + up → coeff ops poly.old i ≡ ops.nought }
-    requires above_old { (i : ℕ) → n ≤ i → coeff ops old.old i ≡ ops.nought }
+    requires above { (i : ℕ) → n ≤ i + up → coeff F.ops poly.old i ≡ F.ops.nought }
+    requires above_old { (i : ℕ) → n ≤ i → coeff F.ops old.old i ≡ F.ops.nought }
     ensures long { length poly.new ≡ 33 }
     ensures old_long { length old.new ≡ 33 }
-    ensures grown { (i : ℕ) → coeff ops poly.new i ≡ ops.sum (coeff ops (shift ops up poly.old) i) (ops.product f (coeff ops old.old i)) }
-    ensures kept { (i : ℕ) → coeff ops old.new i ≡ coeff ops poly.old i }
+    ensures grown { (i : ℕ) → coeff F.ops poly.new i ≡ F.ops.sum (coeff F.ops (shift F.ops up poly.old) i) (F.ops.product f (coeff F.ops old.old i)) }
+    ensures kept { (i : ℕ) → coeff F.ops old.new i ≡ coeff F.ops poly.old i }
 {
     for i in (0..n).rev() {
         let below = shifted(poly, up, i);
@@ -91,10 +91,10 @@ fn extend<F: Field>(
     requires old_long { length old.old ≡ 33 }
     requires here { k < length sequence.now }
     requires room { length sequence.now < 33 }
-    requires holds { Recurrence ops (coeff ops sequence.now) k poly.old found.degree old.old found.miss }
+    requires holds { Recurrence F.ops (coeff F.ops sequence.now) k poly.old found.degree old.old found.miss }
     ensures long { length poly.new ≡ 33 }
     ensures old_long { length old.new ≡ 33 }
-    ensures holds { Recurrence ops (coeff ops sequence.now) (k + 1) poly.new result.degree old.new result.miss }
+    ensures holds { Recurrence F.ops (coeff F.ops sequence.now) (k + 1) poly.new result.degree old.new result.miss }
 {
     let rest = k - found.degree;
     let d = apply(poly, found.degree + 1, sequence, rest);
@@ -122,11 +122,11 @@ pub(crate) fn shortest_recurrence<F: Field>(
     poly: &mut [F; COEFFICIENTS],
     old: &mut [F; COEFFICIENTS],
 ) -> Found<F>
-    requires zeros { poly.old ≡ replicate 33 ops.nought }
-    requires old_zeros { old.old ≡ replicate 33 ops.nought }
+    requires zeros { poly.old ≡ replicate 33 F.ops.nought }
+    requires old_zeros { old.old ≡ replicate 33 F.ops.nought }
     requires room { length sequence.now < 33 }
     ensures long { length poly.new ≡ 33 }
-    ensures holds { Recurrence ops (coeff ops sequence.now) (length sequence.now) poly.new result.degree old.new result.miss }
+    ensures holds { Recurrence F.ops (coeff F.ops sequence.now) (length sequence.now) poly.new result.degree old.new result.miss }
 {
     poly[0] = F::one();
     let mut found = Found {

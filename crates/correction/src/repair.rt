@@ -16,10 +16,10 @@ fn next_sum<F: Field>(terms: &mut [F; COEFFICIENTS], steps: &[F], n: usize) -> F
     requires long { length terms.old ≡ 33 }
     requires within { n ≤ 33 }
     requires room { n ≤ length steps.now }
-    requires above { (j : ℕ) → n ≤ j → coeff ops terms.old j ≡ ops.nought }
+    requires above { (j : ℕ) → n ≤ j → coeff F.ops terms.old j ≡ F.ops.nought }
     ensures long { length terms.new ≡ 33 }
-    ensures sum { result ≡ value ops terms.old ops.unit }
-    ensures terms { (j : ℕ) → coeff ops terms.new j ≡ ops.product (coeff ops steps.now j) (coeff ops terms.old j) }
+    ensures sum { result ≡ value F.ops terms.old F.ops.unit }
+    ensures terms { (j : ℕ) → coeff F.ops terms.new j ≡ F.ops.product (coeff F.ops steps.now j) (coeff F.ops terms.old j) }
 {
     let mut sum = F::zero();
     for j in 0..n {
@@ -41,8 +41,8 @@ struct Quotient<F> {
 fn divide_by<F: Field>(poly: &[F], degree: usize, r: F, sequence: &[F]) -> Quotient<F>
     requires within { degree < length poly.now }
     requires room { degree ≤ length sequence.now }
-    requires above { (i : ℕ) → degree < i → coeff ops poly.now i ≡ ops.nought }
-    ensures { DividedBy ops poly.now r (coeff ops sequence.now) result.value result.applied }
+    requires above { (i : ℕ) → degree < i → coeff F.ops poly.now i ≡ F.ops.nought }
+    ensures { DividedBy F.ops poly.now r (coeff F.ops sequence.now) result.value result.applied }
 {
     let mut coefficient = F::zero();
     let mut value = F::zero();
@@ -59,8 +59,8 @@ fn divide_by<F: Field>(poly: &[F], degree: usize, r: F, sequence: &[F]) -> Quoti
 fn error_at<F: Field>(poly: &[F], degree: usize, r: F, scale: F, sequence: &[F]) -> Option<F>
     requires within { degree < length poly.now }
     requires room { degree ≤ length sequence.now }
-    requires above { (i : ℕ) → degree < i → coeff ops poly.now i ≡ ops.nought }
-    ensures { Error ops poly.now r scale (coeff ops sequence.now) result }
+    requires above { (i : ℕ) → degree < i → coeff F.ops poly.now i ≡ F.ops.nought }
+    ensures { Error F.ops poly.now r scale (coeff F.ops sequence.now) result }
 {
     let quotient = divide_by(poly, degree, r, sequence);
     let Some(reciprocal) = quotient.value.times(scale).reciprocal() else {
@@ -73,7 +73,7 @@ fn error_at<F: Field>(poly: &[F], degree: usize, r: F, scale: F, sequence: &[F])
 fn add_powers<F: Field>(syndromes: &mut [F; CHECKS], y: F, x: F)
     requires { length syndromes.old ≡ 32 }
     ensures long { length syndromes.new ≡ 32 }
-    ensures added { AddedPowers ops y x syndromes.old syndromes.new }
+    ensures added { AddedPowers F.ops y x syndromes.old syndromes.new }
 {
     let mut term = y;
     for k in 0..CHECKS {
@@ -91,8 +91,8 @@ struct Place<F> {
 
 /// The next place. `lead` is γ to the exponent of the first root.
 fn next_place<F: Field>(place: Place<F>, gamma: F, lead: F) -> Place<F>
-    ensures x { result.x ≡ ops.product gamma place.x }
-    ensures scale { result.scale ≡ ops.product lead place.scale }
+    ensures x { result.x ≡ F.ops.product gamma place.x }
+    ensures scale { result.scale ≡ F.ops.product lead place.scale }
 {
     Place {
         x: gamma.times(place.x),
@@ -116,10 +116,10 @@ fn mend_place<F: Field>(
     requires inside { i < 255 }
     requires within { degree < length poly.now }
     requires room { degree ≤ length sequence.now }
-    requires above { (i : ℕ) → degree < i → coeff ops poly.now i ≡ ops.nought }
+    requires above { (i : ℕ) → degree < i → coeff F.ops poly.now i ≡ F.ops.nought }
     ensures long { length word.new ≡ 255 }
     ensures left_long { length left.new ≡ 32 }
-    ensures mended { Mended ops poly.now place.x place.scale (coeff ops sequence.now) value i word.old word.new left.old left.new result }
+    ensures mended { Mended F.ops poly.now place.x place.scale (coeff F.ops sequence.now) value i word.old word.new left.old left.new result }
 {
     if !value.same(F::zero()) {
         return true;
@@ -150,14 +150,14 @@ pub(crate) fn repair<F: Field>(
     requires terms_long { length terms.old ≡ 33 }
     requires within { degree < length poly.now }
     requires room { degree ≤ length sequence.now }
-    requires above { (i : ℕ) → degree < i → coeff ops poly.now i ≡ ops.nought }
+    requires above { (i : ℕ) → degree < i → coeff F.ops poly.now i ≡ F.ops.nought }
     requires copied { terms.old ≡ poly.now }
     requires steps_room { degree < length steps.now }
-    requires powers { (j : ℕ) → j < length steps.now → coeff ops steps.now j ≡ ops.product ops.unit (power_of ops gamma j) }
-    requires base { gamma ≡ alpha_power ops telemetry.step }
-    requires first { lead ≡ gamma_power ops telemetry telemetry.first }
+    requires powers { (j : ℕ) → j < length steps.now → coeff F.ops steps.now j ≡ F.ops.product F.ops.unit (power_of F.ops gamma j) }
+    requires base { gamma ≡ alpha_power F.ops telemetry.step }
+    requires first { lead ≡ gamma_power F.ops telemetry telemetry.first }
     ensures left_long { length left.new ≡ 32 }
-    ensures searched { Searched ops telemetry poly.now (coeff ops sequence.now) word.old word.new left.old left.new result }
+    ensures searched { Searched F.ops telemetry poly.now (coeff F.ops sequence.now) word.old word.new left.old left.new result }
 {
     let mut place = Place {
         x: F::one(),

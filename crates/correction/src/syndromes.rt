@@ -12,7 +12,7 @@ pub(crate) const CHECKS: usize = 32;
 
 /// The elements first·base^k, from k = 0 on.
 pub(crate) fn powers<F: Field>(first: F, base: F) -> [F; COEFFICIENTS]
-    ensures { (k : ℕ) → k < 33 → coeff ops result k ≡ ops.product first (power_of ops base k) }
+    ensures { (k : ℕ) → k < 33 → coeff F.ops result k ≡ F.ops.product first (power_of F.ops base k) }
 {
     let mut out = [F::zero(); COEFFICIENTS];
     let mut x = first;
@@ -28,7 +28,7 @@ fn horner_step<F: Field>(values: &mut [F; CHECKS], points: &[F], coefficient: F)
     requires long { length values.old ≡ 32 }
     requires room { 32 ≤ length points.now }
     ensures long { length values.new ≡ 32 }
-    ensures step { (k : ℕ) → k < 32 → coeff ops values.new k ≡ ops.sum coefficient (ops.product (coeff ops points.now k) (coeff ops values.old k)) }
+    ensures step { (k : ℕ) → k < 32 → coeff F.ops values.new k ≡ F.ops.sum coefficient (F.ops.product (coeff F.ops points.now k) (coeff F.ops values.old k)) }
 {
     for k in 0..CHECKS {
         values[k] = coefficient.plus(points[k].times(values[k]));
@@ -38,7 +38,7 @@ fn horner_step<F: Field>(values: &mut [F; CHECKS], points: &[F], coefficient: F)
 /// The values of a polynomial at the points.
 pub(crate) fn values_at<F: Field>(points: &[F], coefficients: &[F]) -> [F; CHECKS]
     requires { 32 ≤ length points.now }
-    ensures { (k : ℕ) → k < 32 → coeff ops result k ≡ value ops coefficients.now (coeff ops points.now k) }
+    ensures { (k : ℕ) → k < 32 → coeff F.ops result k ≡ value F.ops coefficients.now (coeff F.ops points.now k) }
 {
     let mut values = [F::zero(); CHECKS];
     for i in (0..coefficients.len()).rev() {
@@ -49,8 +49,8 @@ pub(crate) fn values_at<F: Field>(points: &[F], coefficients: &[F]) -> [F; CHECK
 
 /// Whether every element is zero.
 pub(crate) fn all_zero<F: Field>(elements: &[F]) -> bool
-    ensures zero { result ≡ true → Nought ops elements.now }
-    ensures other { result ≡ false → Nought ops elements.now → ⊥ }
+    ensures zero { result ≡ true → Nought F.ops elements.now }
+    ensures other { result ≡ false → Nought F.ops elements.now → ⊥ }
 {
     for i in 0..elements.len() {
         if !elements[i].same(F::zero()) {

@@ -1,4 +1,6 @@
 //! Answers requests: the text that is said to a line.
+#![tactic(auto)]
+
 mod checks;
 mod questions;
 mod replies;

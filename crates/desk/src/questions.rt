@@ -19,7 +19,7 @@ fn push_word(text: &mut String, word: &str) -> Result<(), AllocError>
 
 /// Writes an element behind the text, with a blank between.
 fn push_element<F: Spelled>(text: &mut String, x: F) -> Result<(), AllocError>
-    ensures { OnOk result (string_bytes text.new ≡ string_bytes text.old ++ (32 ∷ written x)) }
+    ensures { OnOk result (string_bytes text.new ≡ string_bytes text.old ++ (32 ∷ F.written x)) }
 {
     text.push_str(" ")?;
     x.write(text)?;
@@ -28,7 +28,7 @@ fn push_element<F: Spelled>(text: &mut String, x: F) -> Result<(), AllocError>
 
 /// The same for an element that may be missing.
 fn push_option<F: Spelled>(text: &mut String, x: Option<F>) -> Result<(), AllocError>
-    ensures { OnOk result (string_bytes text.new ≡ string_bytes text.old ++ (32 ∷ or_none written x)) }
+    ensures { OnOk result (string_bytes text.new ≡ string_bytes text.old ++ (32 ∷ or_none F.written x)) }
 {
     match x {
         Some(element) => push_element(text, element),

@@ -1,4 +1,6 @@
 //! Two dividers, each a bank of one lane: one by a table of products, in power form, and one bit by bit, in dual form.
+#![tactic(auto)]
+
 mod lane;
 mod products;
 mod registers;

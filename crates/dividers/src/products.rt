@@ -70,7 +70,7 @@ fn products_in(masks: &[u8; 32], f: u8) -> [u8; 32]
     products
 }
 
-/// The products typeof.f.G_0 to typeof.f.G_31, in dual form.
+/// The products f·G_0 to f·G_31, in dual form.
 pub(crate) fn products(f: u8) -> [u8; 32]
     ensures { (k : ℕ) → k < 32 → slice_index result k ≡ to_dual (product (power_byte f) (coefficient_byte k)) }
 {

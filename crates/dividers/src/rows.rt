@@ -4,7 +4,7 @@ ghost use Rattle.power_form.specs.Arithmetic.{product};
 ghost use Rattle.dividers.specs.Coefficients.{coefficient_byte};
 ghost use Rattle.dividers.specs.Rows.{rows_right};
 
-/// Row f has typeof.f.G_0 to typeof.f.G_31, in power form.
+/// Row f has f·G_0 to f·G_31, in power form.
 const ROWS: [[u8; 32]; 256] = [
     [
         0x00, 0x00, 0x00, 0x00, 0x00, 0x00, 0x00, 0x00, 0x00, 0x00, 0x00, 0x00, 0x00, 0x00, 0x00,
@@ -1296,7 +1296,7 @@ fn row_in(table: &[[u8; 32]; 256], f: u8) -> &[u8; 32]
     &table[f as usize]
 }
 
-/// The products typeof.f.G_0 to typeof.f.G_31, in power form.
+/// The products f·G_0 to f·G_31, in power form.
 pub(crate) fn row(f: u8) -> &'static [u8; 32]
     ensures { (k : ℕ) → k < 32 → slice_index result.now k ≡ product f (coefficient_byte k) }
 {

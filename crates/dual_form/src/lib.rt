@@ -1,4 +1,6 @@
 //! The dual form of field elements: the form of the symbols in blocks and packets.
+#![tactic(auto)]
+
 mod element;
 mod tables;
 

@@ -1,4 +1,6 @@
 //! Prints all 256 elements of the field, a line each: the exponent, the byte in power form, the dual byte and the trace.
+#![tactic(auto)]
+
 use dual_form::trace;
 use exponent_form::{Exponent, Logarithm};
 use std::io::{BufWriter, Write};

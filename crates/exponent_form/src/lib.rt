@@ -1,4 +1,6 @@
 //! The exponent form of field elements: a star for zero, or the exponent of a power of α.
+#![tactic(auto)]
+
 mod element;
 
 ghost use Rattle.std.specs.Prelude.{◌≡◌, ◌+◌, ◌-◌, ◌%◌};

@@ -1,4 +1,6 @@
 //! Kinds of field element, and what is computed from their laws alone: powers, values of polynomials and their first roots.
+#![tactic(auto)]
+
 ghost use Rattle.std.specs.Prelude.{◌≡◌};
 ghost use Rattle.field.specs.Field.{Ops, Laws, power as power_of};
 ghost use Rattle.field.specs.Polynomial.{value, first_root as first_root_of};
@@ -38,7 +40,7 @@ pub trait Field: Copy {
 
 /// `base` to the power `exponent`.
 pub fn power<F: Field>(base: F, exponent: u8) -> F
-    ensures { result ≡ power_of ops base exponent }
+    ensures { result ≡ power_of F.ops base exponent }
 {
     let mut x = F::one();
     for _i in 0..exponent {
@@ -49,14 +51,14 @@ pub fn power<F: Field>(base: F, exponent: u8) -> F
 
 /// A coefficient and x times the value of those above it: one step of Horner's rule.
 fn horner_step<F: Field>(coefficient: F, x: F, above: F) -> F
-    ensures { result ≡ ops.sum coefficient (ops.product x above) }
+    ensures { result ≡ F.ops.sum coefficient (F.ops.product x above) }
 {
     coefficient.plus(x.times(above))
 }
 
 /// The value at x of the polynomial with these coefficients, lowest power first.
 pub fn evaluate<F: Field>(coefficients: &[F], x: F) -> F
-    ensures { result ≡ value ops coefficients.now x }
+    ensures { result ≡ value F.ops coefficients.now x }
 {
     let mut sum = F::zero();
     for i in (0..coefficients.len()).rev() {
@@ -67,14 +69,14 @@ pub fn evaluate<F: Field>(coefficients: &[F], x: F) -> F
 
 /// Whether the polynomial is zero at x.
 fn is_root<F: Field>(coefficients: &[F], x: F) -> bool
-    ensures { result ≡ ops.same (value ops coefficients.now x) ops.nought }
+    ensures { result ≡ F.ops.same (value F.ops coefficients.now x) F.ops.nought }
 {
     evaluate(coefficients, x).same(F::zero())
 }
 
 /// The first n, from a given one on and below α's order, for which α^n is a root of the polynomial.
 pub fn first_root<F: Field>(coefficients: &[F], from: usize) -> Option<usize>
-    ensures { result ≡ first_root_of ops coefficients.now from }
+    ensures { result ≡ first_root_of F.ops coefficients.now from }
 {
     let order = F::order() as usize;
     if from >= order {

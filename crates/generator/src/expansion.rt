@@ -12,7 +12,7 @@ pub const COEFFICIENTS: usize = 33;
 /// Multiplies the polynomial by x + root; a power for which there is no room is lost.
 fn multiply<F: Field>(coefficients: &mut [F; COEFFICIENTS], root: F)
     requires { length coefficients.old ≡ 33 }
-    ensures { Multiplied ops root coefficients.old coefficients.new }
+    ensures { Multiplied F.ops root coefficients.old coefficients.new }
 {
     let mut below = F::zero();
     for i in 0..COEFFICIENTS {
@@ -25,17 +25,17 @@ fn multiply<F: Field>(coefficients: &mut [F; COEFFICIENTS], root: F)
 /// Multiplies the polynomial by x + γ^j.
 fn multiply_by_root<F: Field>(coefficients: &mut [F; COEFFICIENTS], j: u8)
     requires { length coefficients.old ≡ 33 }
-    ensures { Multiplied ops (gamma_power ops telemetry j) coefficients.old coefficients.new }
+    ensures { Multiplied F.ops (gamma_power F.ops telemetry j) coefficients.old coefficients.new }
 {
     multiply(coefficients, gamma_to(j));
 }
 
 /// Leaves in place of zeros the product of x + γ^j for the `roots` exponents j from `first` on.
 fn expand<F: Field>(coefficients: &mut [F; COEFFICIENTS], first: u8, roots: u8)
-    requires zeros { coefficients.old ≡ replicate (roots + 1) ops.nought }
+    requires zeros { coefficients.old ≡ replicate (roots + 1) F.ops.nought }
     requires full { roots ≡ 32 }
     requires bytes { first + roots ≤ 256 }
-    ensures { coefficients.new ≡ product_of ops (λ k. gamma_power ops telemetry (first + k)) roots }
+    ensures { coefficients.new ≡ product_of F.ops (λ k. gamma_power F.ops telemetry (first + k)) roots }
 {
     coefficients[0] = F::one();
     for k in 0..roots {
@@ -45,7 +45,7 @@ fn expand<F: Field>(coefficients: &mut [F; COEFFICIENTS], first: u8, roots: u8)
 
 /// The coefficients of the generator, lowest power first.
 pub fn generator<F: Field>() -> [F; COEFFICIENTS]
-    ensures { result ≡ generator_of ops telemetry }
+    ensures { result ≡ generator_of F.ops telemetry }
 {
     let mut coefficients = [F::zero(); COEFFICIENTS];
     expand(&mut coefficients, FIRST_ROOT, CHECKS);

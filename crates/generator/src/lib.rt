@@ -1,5 +1,7 @@
 //! The generator of the (255,223) code: its coefficients computed from its roots in any kind of field element, and what it is to the
 //! codewords.
+#![tactic(auto)]
+
 mod expansion;
 mod exponents;
 
@@ -12,7 +14,7 @@ use field::Field;
 
 /// The generator divides the codewords and no other words, and codewords lie far apart: a theorem, with nothing to compute.
 pub fn generators_stand<F: Field>()
-    ensures { Generators ops }
+    ensures { Generators F.ops }
 {}
 
 /// The coefficients are the listed powers of α in every form: a theorem, with nothing to compute.

@@ -1,4 +1,6 @@
 //! Banks that are written as text: what the text says, and the bank that it asks for.
+#![tactic(auto)]
+
 mod building;
 mod built;
 mod kinds;

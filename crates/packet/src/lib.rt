@@ -1,4 +1,6 @@
 //! Packets: how they stand in a message, and the walk over a message that hands them out one by one.
+#![tactic(auto)]
+
 mod counting;
 mod fault;
 mod item;

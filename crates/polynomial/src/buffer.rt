@@ -22,21 +22,21 @@ impl<'a, F: Field> Polynomial<'a, F> {
 
     /// The value at x.
     pub fn evaluate(&self, x: F) -> F
-        ensures { result ≡ value ops self.now.coefficients.now x }
+        ensures { result ≡ value F.ops self.now.coefficients.now x }
     {
         field::evaluate(self.coefficients, x)
     }
 
     /// The first n, from a given one on and below α's order, for which α^n is a root.
     pub fn first_root(&self, from: usize) -> Option<usize>
-        ensures { result ≡ first_root_of ops self.now.coefficients.now from }
+        ensures { result ≡ first_root_of F.ops self.now.coefficients.now from }
     {
         field::first_root(self.coefficients, from)
     }
 
     /// Leaves the remainder of the division by `by` in the slice. None, with the slice as it was, where `by` is zero.
     pub fn divide(&mut self, by: &[F]) -> Option<()>
-        ensures left { Divided ops self.old.coefficients.now by.now self.new.coefficients.now result }
+        ensures left { Divided F.ops self.old.coefficients.now by.now self.new.coefficients.now result }
         ensures lent { self.new.coefficients.ghost_name ≡ self.old.coefficients.ghost_name }
     {
         crate::divide(self.coefficients, by)

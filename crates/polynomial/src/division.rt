@@ -7,7 +7,7 @@ use field::Field;
 
 /// The highest power whose coefficient is not zero; none of the zero polynomial.
 pub fn degree<F: Field>(coefficients: &[F]) -> Option<usize>
-    ensures { HasDegree ops coefficients.now result }
+    ensures { HasDegree F.ops coefficients.now result }
 {
     for i in (0..coefficients.len()).rev() {
         if !coefficients[i].same(F::zero()) {
@@ -21,7 +21,7 @@ pub fn degree<F: Field>(coefficients: &[F]) -> Option<usize>
 fn add_multiple<F: Field>(buffer: &mut [F], k: usize, f: F, by: &[F], n: usize)
     requires room { k + n ≤ length buffer.old }
     requires within { n ≤ length by.now }
-    ensures { (i : ℕ) → coeff ops buffer.new i ≡ ops.sum (coeff ops buffer.old i) (ops.product f (coeff ops (shift ops k (take n by.now)) i)) }
+    ensures { (i : ℕ) → coeff F.ops buffer.new i ≡ F.ops.sum (coeff F.ops buffer.old i) (F.ops.product f (coeff F.ops (shift F.ops k (take n by.now)) i)) }
 {
     for j in 0..n {
         buffer[k + j] = buffer[k + j].plus(f.times(by[j]));
@@ -30,8 +30,8 @@ fn add_multiple<F: Field>(buffer: &mut [F], k: usize, f: F, by: &[F], n: usize)
 
 // Leaves in the buffer its remainder by a polynomial of degree m.
 fn reduce<F: Field>(buffer: &mut [F], by: &[F], m: usize)
-    requires { Degree ops by.now m }
-    ensures { Reduced ops buffer.old by.now buffer.new }
+    requires { Degree F.ops by.now m }
+    ensures { Reduced F.ops buffer.old by.now buffer.new }
 {
     let Some(reciprocal) = by[m].reciprocal() else {
         return;
@@ -45,7 +45,7 @@ fn reduce<F: Field>(buffer: &mut [F], by: &[F], m: usize)
 
 /// Leaves in the buffer the remainder of its division by `by`. None, with the buffer as it was, where `by` is zero.
 pub fn divide<F: Field>(buffer: &mut [F], by: &[F]) -> Option<()>
-    ensures { Divided ops buffer.old by.now buffer.new result }
+    ensures { Divided F.ops buffer.old by.now buffer.new result }
 {
     let m = degree(by)?;
     reduce(buffer, by, m);

@@ -1,4 +1,6 @@
 //! The power form of field elements: a byte whose bits are the coefficients of the powers of α.
+#![tactic(auto)]
+
 mod element;
 mod tables;
 

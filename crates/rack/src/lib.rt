@@ -1,4 +1,6 @@
 //! Banks that are chosen while a program runs: one of two banks, and up to 8 banks of one lane in a row.
+#![tactic(auto)]
+
 mod choice;
 mod kind;
 mod lanes;

@@ -1,4 +1,6 @@
 //! What receiving a block answers: the codeword near each lane, the message that they carry and its packets, or a fault.
+#![tactic(auto)]
+
 mod conversion;
 mod fault;
 mod laws;

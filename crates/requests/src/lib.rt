@@ -1,4 +1,6 @@
 //! Requests as lines of text: which line is which request.
+#![tactic(auto)]
+
 mod questions;
 mod read;
 mod request;

@@ -11,7 +11,7 @@ use tokens::{Fault, Piece, number, word};
 
 /// `op K a b`, behind the kind.
 fn operate<F: Spelled>(piece: Piece<'_>) -> Result<Question<F>, Fault>
-    ensures { MatchResult result (λ q. Asks written (codes "op") piece.entry.text.now q) (λ f. (f ≡ Memory) ⊎ NoQuestion written (codes "op") piece.entry.text.now) }
+    ensures { MatchResult result (λ q. Asks F.written (codes "op") piece.entry.text.now q) (λ f. (f ≡ Memory) ⊎ NoQuestion F.written (codes "op") piece.entry.text.now) }
 {
     let (a, b) = word(piece)?;
     let a = F::read(a)?;
@@ -21,7 +21,7 @@ fn operate<F: Spelled>(piece: Piece<'_>) -> Result<Question<F>, Fault>
 
 /// `eval K poly x`, behind the kind.
 fn evaluate<F: Spelled>(heap: Global, piece: Piece<'_>) -> Result<Question<F>, Fault>
-    ensures { MatchResult result (λ q. Asks written (codes "eval") piece.entry.text.now q) (λ f. (f ≡ Memory) ⊎ NoQuestion written (codes "eval") piece.entry.text.now) }
+    ensures { MatchResult result (λ q. Asks F.written (codes "eval") piece.entry.text.now q) (λ f. (f ≡ Memory) ⊎ NoQuestion F.written (codes "eval") piece.entry.text.now) }
 {
     let (list, x) = word(piece)?;
     let coefficients = read_list(heap, list)?;
@@ -31,7 +31,7 @@ fn evaluate<F: Spelled>(heap: Global, piece: Piece<'_>) -> Result<Question<F>, F
 
 /// `div K buffer by`, behind the kind.
 fn divide<F: Spelled>(heap: Global, piece: Piece<'_>) -> Result<Question<F>, Fault>
-    ensures { MatchResult result (λ q. Asks written (codes "div") piece.entry.text.now q) (λ f. (f ≡ Memory) ⊎ NoQuestion written (codes "div") piece.entry.text.now) }
+    ensures { MatchResult result (λ q. Asks F.written (codes "div") piece.entry.text.now q) (λ f. (f ≡ Memory) ⊎ NoQuestion F.written (codes "div") piece.entry.text.now) }
 {
     let (buffer, by) = word(piece)?;
     let buffer = read_list(heap, buffer)?;
@@ -41,7 +41,7 @@ fn divide<F: Spelled>(heap: Global, piece: Piece<'_>) -> Result<Question<F>, Fau
 
 /// `root K poly n`, behind the kind.
 fn root<F: Spelled>(heap: Global, piece: Piece<'_>) -> Result<Question<F>, Fault>
-    ensures { MatchResult result (λ q. Asks written (codes "root") piece.entry.text.now q) (λ f. (f ≡ Memory) ⊎ NoQuestion written (codes "root") piece.entry.text.now) }
+    ensures { MatchResult result (λ q. Asks F.written (codes "root") piece.entry.text.now q) (λ f. (f ≡ Memory) ⊎ NoQuestion F.written (codes "root") piece.entry.text.now) }
 {
     let (list, n) = word(piece)?;
     let coefficients = read_list(heap, list)?;
@@ -56,7 +56,7 @@ pub(crate) fn question<F: Spelled>(
     piece: Piece<'_>,
 ) -> Result<Question<F>, Fault>
     requires { Plain verb.now }
-    ensures { MatchResult result (λ q. Asks written verb.now piece.entry.text.now q) (λ f. (f ≡ Memory) ⊎ NoQuestion written verb.now piece.entry.text.now) }
+    ensures { MatchResult result (λ q. Asks F.written verb.now piece.entry.text.now q) (λ f. (f ≡ Memory) ⊎ NoQuestion F.written verb.now piece.entry.text.now) }
 {
     match verb {
         "op" => operate(piece),

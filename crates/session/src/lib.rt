@@ -1,4 +1,6 @@
 //! A session with a bank: calls are carried out on the bank that is open, and answered line by line.
+#![tactic(auto)]
+
 mod bank_session;
 mod calling;
 mod objection;

@@ -10,7 +10,7 @@ use tokens::piece::Piece;
 
 /// The values that the text lists: `-` is none.
 pub fn read_list<S: Spelled>(heap: Global, piece: Piece<'_>) -> Result<Vec<S>, Fault>
-    ensures { MatchResult result (λ v. piece.entry.text.now ≡ written_list written v.items) (λ f. (f ≡ Memory) ⊎ NoList written piece.entry.text.now) }
+    ensures { MatchResult result (λ v. piece.entry.text.now ≡ written_list S.written v.items) (λ f. (f ≡ Memory) ⊎ NoList S.written piece.entry.text.now) }
 {
     let mut out = Vec::new(heap);
     if piece.text == "-" {
@@ -34,7 +34,7 @@ pub fn read_list<S: Spelled>(heap: Global, piece: Piece<'_>) -> Result<Vec<S>, F
 
 /// Writes the values behind the text, with commas between.
 pub fn write_list<S: Spelled>(text: &mut String, items: &[S]) -> Result<(), AllocError>
-    ensures { OnOk result (string_bytes text.new ≡ string_bytes text.old ++ written_list written items.now) }
+    ensures { OnOk result (string_bytes text.new ≡ string_bytes text.old ++ written_list S.written items.now) }
 {
     match items {
         [] => text.push('-'),

@@ -1,4 +1,6 @@
 //! Reads requests from standard input, one a line, and prints the answer to each.
+#![tactic(auto)]
+
 mod lines;
 
 use counter::Desk;

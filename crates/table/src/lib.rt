@@ -1,4 +1,6 @@
 //! Tables of 256 bytes whose rule is one test, computed over the whole table.
+#![tactic(auto)]
+
 ghost use Rattle.std.specs.Prelude.{◌≡◌, true, ℕ, get_or};
 ghost use Rattle.table.specs.Computed.{tabulates};
 

@@ -1,4 +1,6 @@
 //! Text as a console reads and writes it: words, numbers and bytes in hex, and why a text is refused.
+#![tactic(auto)]
+
 pub mod fault;
 pub mod hex;
 pub mod numbers;

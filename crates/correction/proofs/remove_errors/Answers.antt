@@ -43,14 +43,14 @@ repair-requires g c =
       ),
     )
 
-pub returns-then-not-all-zero : goal.returns-then-not-all-zero
-returns-then-not-all-zero g c =
+pub returns-then-not-all_zero : goal.returns-then-not-all_zero
+returns-then-not-all_zero g c =
     let F : Lawful _ = record { ops = g.F.Field.ops; laws = g.met.F.Field.laws } in
     let searched = c.if-not-repair.ensures.searched in
-    inr (searched.0, λ begins. not_looked F telemetry c.repair.new.word c.repair.new.left c.if-not-repair.ensures.left_long (searched.1 begins) (c.if-not-all-zero.ensures.other refl))
+    inr (searched.0, λ begins. not_looked F telemetry c.repair.new.word c.repair.new.left c.if-not-repair.ensures.left_long (searched.1 begins) (c.if-not-all_zero.ensures.other refl))
 
 pub returns : goal.returns
 returns g c =
     let F : Lawful _ = record { ops = g.F.Field.ops; laws = g.met.F.Field.laws } in
     let searched = c.if-not-repair.ensures.searched in
-    (refl, searched.0, λ begins. looked F telemetry c.repair.new.word c.repair.new.left (searched.1 begins) (c.if-not-all-zero.ensures.zero refl))
+    (refl, searched.0, λ begins. looked F telemetry c.repair.new.word c.repair.new.left (searched.1 begins) (c.if-not-all_zero.ensures.zero refl))

@@ -10,4 +10,4 @@ pub returns : goal.returns
 returns c =
     let x = c.args.x in
     let y = c.args.y in
-    c.symbol-with.ensures ∙ dual_equal (stays _ (xor_lt 8 x.byte y.byte x.small y.small) ∙ dual_sum x.byte y.byte x.small y.small)
+    c.symbol_with.ensures ∙ dual_equal (stays _ (xor_lt 8 x.byte y.byte x.small y.small) ∙ dual_sum x.byte y.byte x.small y.small)

@@ -6,8 +6,8 @@ use Rattle.exponent_form.specs.declared.element.Logarithm.TheVariants.{Of}
 use Rattle.exponent_form.specs.ExponentLaws.{exponent_equal, exponent_found}
 use Rattle.exponent_form.proofs.logarithm.Goals as goal
 
-pub invariant-of-result : goal.invariant-of-result
-invariant-of-result c =
+pub invariant_of-result : goal.invariant_of-result
+invariant_of-result c =
     let a = c.args.element.bits in
     let found = exponent_found (eqb a 0) a c.in-Some.number c.in-Some.ensures in
     (subst (λ n. n < 255) (sym found.1) (exponent_below a), tt)

@@ -10,7 +10,7 @@ loop-i-init g c =
 
 pub loop-i-preserved : goal.loop-i-preserved
 loop-i-preserved g c =
-    c.horner-step-sum.ensures
+    c.horner_step-sum.ensures
     ∙ horner_next g.F.Field.ops c.args.coefficients.now c.args.x c.loop-i.i c.index-coefficients-i.result c.loop-i.sum
     (omega arith) c.loop-i.auto.i c.index-coefficients-i.is c.loop-i.invariant
 

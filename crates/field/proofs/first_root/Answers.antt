@@ -18,13 +18,13 @@ loop-n-init g c =
     let o = g.F.Field.ops in
     (c.power-x.ensures ∙ ap (λ a. power o a c.args.from) c.alpha.ensures, refl)
 
-pub returns-then-is-root : goal.returns-then-is-root
-returns-then-is-root g c =
+pub returns-then-is_root : goal.returns-then-is_root
+returns-then-is_root g c =
     let o = g.F.Field.ops in
     let cs = c.args.coefficients.now in
     let within : c.loop-n.n < o.order = omega (arith, c.order-order.ensures) in
     let there : o.same (value o cs (alpha_power o c.loop-n.n)) o.nought ≡ true =
-    sym (ap (λ x. o.same (value o cs x) o.nought) c.loop-n.invariant.0) ∙ sym c.if-is-root.ensures in
+    sym (ap (λ x. o.same (value o cs x) o.nought) c.loop-n.invariant.0) ∙ sym c.if-is_root.ensures in
     sym (first_found (λ k. o.same (value o cs (alpha_power o k)) o.nought) o.order c.loop-n.n within there) ∙ c.loop-n.invariant.1
 
 pub loop-n-preserved : goal.loop-n-preserved
@@ -33,7 +33,7 @@ loop-n-preserved g c =
     let cs = c.args.coefficients.now in
     let within : c.loop-n.n < o.order = omega (arith, c.order-order.ensures) in
     let there : o.same (value o cs (alpha_power o c.loop-n.n)) o.nought ≡ false =
-    sym (ap (λ x. o.same (value o cs x) o.nought) c.loop-n.invariant.0) ∙ sym c.if-is-root.ensures in (
+    sym (ap (λ x. o.same (value o cs x) o.nought) c.loop-n.invariant.0) ∙ sym c.if-is_root.ensures in (
       c.times-x.ensures ∙ ap₂ o.product c.alpha-in-loop-n.ensures c.loop-n.invariant.0 ∙ power_next o o.alpha c.loop-n.n,
       first_passed (λ k. o.same (value o cs (alpha_power o k)) o.nought) o.order c.loop-n.n within there ∙ c.loop-n.invariant.1,
     )

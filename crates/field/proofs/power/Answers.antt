@@ -10,4 +10,4 @@ loop-i-init g c = c.one-x.ensures
 pub loop-i-preserved : goal.loop-i-preserved
 loop-i-preserved g c =
     let o = g.F.Field.ops in
-    c.times-x.ensures ∙ ap (o.product c.args.base) c.loop-i.invariant ∙ power_next o c.args.base c.loop-i.-i
+    c.times-x.ensures ∙ ap (o.product c.args.base) c.loop-i.invariant ∙ power_next o c.args.base c.loop-i._i

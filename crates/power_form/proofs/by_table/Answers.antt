@@ -6,5 +6,5 @@ use Rattle.power_form.proofs.by_table.Goals as goal
 
 pub returns : goal.returns
 returns c =
-    c.element-with.ensures ∙ ap element (c.power-at.ensures ∙ sym (power_mod c.args.n))
+    c.element_with.ensures ∙ ap element (c.power_at.ensures ∙ sym (power_mod c.args.n))
     ∙ sym (element_of _ _ (power_bits c.args.n))

@@ -4,4 +4,4 @@ use Rattle.power_form.proofs.inverse_byte.Goals as goal
 
 pub returns : goal.returns
 unfolding inverse
-returns c = c.power-at.ensures ∙ ap (λ n. alpha_byte ((255 - n) % 255)) c.exponent-at.ensures
+returns c = c.power_at.ensures ∙ ap (λ n. alpha_byte ((255 - n) % 255)) c.exponent_at.ensures

@@ -5,8 +5,8 @@ use Rattle.power_form.proofs.product_byte.Goals as goal
 
 pub returns : goal.returns
 returns c =
-    c.power-at.ensures
-    ∙ ap alpha_byte (ap₂ (λ m n. (m + n) % 255) c.exponent-at.ensures c.exponent-at-2.ensures)
+    c.power_at.ensures
+    ∙ ap alpha_byte (ap₂ (λ m n. (m + n) % 255) c.exponent_at.ensures c.exponent_at-2.ensures)
     ∙ sym (product_exponents c.args.a c.args.b (omega arith) (omega arith) (omega arith) (omega arith))
 
 pub returns-then-a-eq0 : goal.returns-then-a-eq0

@@ -6,7 +6,7 @@ use Rattle.accounts.proofs.hex.write_digits.Goals as goal
 
 pub loop-byte-preserved : goal.loop-byte-preserved
 loop-byte-preserved c =
-    digits_more _ _ _ _ _ c.loop-byte-test.true c.loop-byte.invariant c.in-ok-write-byte.ensures
+    digits_more _ _ _ _ _ c.loop-byte-test.true c.loop-byte.invariant c.in_ok-write_byte.ensures
 
 pub returns : goal.returns
 returns c =

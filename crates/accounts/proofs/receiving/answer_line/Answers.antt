@@ -8,7 +8,7 @@ pub returns : goal.returns
 returns c =
     let id = c.args.id.now in
     let a = answer c.args.outcome in
-    let front : string_bytes c.in-ok-text.text ≡ codes "receive " ++ (id ++ (codes " = " ++ (shown_answer a ++ codes " message="))) =
-    c.in-ok-text.ensures.ok ∙ ap (λ t. codes "receive " ++ (id ++ (codes " = " ++ (t ++ codes " message=")))) c.in-ok-told.ensures in
+    let front : string_bytes c.in_ok-text.text ≡ codes "receive " ++ (id ++ (codes " = " ++ (shown_answer a ++ codes " message="))) =
+    c.in_ok-text.ensures.ok ∙ ap (λ t. codes "receive " ++ (id ++ (codes " = " ++ (t ++ codes " message=")))) c.in_ok-told.ensures in
     behind_known _ _ (codes "receive ") id (codes " = ") (shown_answer a) (codes " message=") (shown_message a c.args.message.now) front
-    c.in-ok-write-message.ensures
+    c.in_ok-write_message.ensures

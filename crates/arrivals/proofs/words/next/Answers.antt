@@ -3,7 +3,7 @@ use Rattle.calls.proofs.Exits.{handed_on}
 use Rattle.arrivals.proofs.NoArrivals.{no_next}
 use Rattle.arrivals.proofs.words.next.Goals as goal
 
-pub returns-in-err-message : goal.returns-in-err-message
-returns-in-err-message c =
-    handed_on _ c.from-residual-in-err-message.result c.from-residual-in-err-message.ensures.1 c.in-err-message.ensures
-    (λ none. no_next _ (λ id message plain ok e. none message ok (parted c.in-ok-id.ensures _ _ plain e).1))
+pub returns-in_err-message : goal.returns-in_err-message
+returns-in_err-message c =
+    handed_on _ c.from-residual-in_err-message.result c.from-residual-in_err-message.ensures.1 c.in_err-message.ensures
+    (λ none. no_next _ (λ id message plain ok e. none message ok (parted c.in_ok-id.ensures _ _ plain e).1))

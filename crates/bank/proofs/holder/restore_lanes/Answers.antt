@@ -6,8 +6,8 @@ use Rattle.bank.proofs.holder.restore_lanes.Goals as goal
 pub loop-lane-init : goal.loop-lane-init
 loop-lane-init g c = search rules
 
-pub restore-lane-requires : goal.restore-lane-requires
-restore-lane-requires g c =
+pub restore_lane-requires : goal.restore_lane-requires
+restore_lane-requires g c =
     let ls = g.B.Bank.lanes c.args.bank.now in
     let few = (g.met.B.Bank.shape c.args.bank.now).few in
     let m = length_elements c.args.copy.now in
@@ -22,7 +22,7 @@ loop-lane-preserved g c =
     let within : c.loop-lane.lane < length c.args.copy.now = omega arith in
     let more = spliced_more (elements c.args.copy.now) ls c.loop-lane.lane [] (omega arith) (omega arith) in
     let x = take c.loop-lane.lane (elements c.args.copy.now) ++ drop c.loop-lane.lane ls in
-    c.restore-lane.ensures ∙ rw c.loop-lane.invariant (ap (set x c.loop-lane.lane) (element_row c.args.copy.now c.loop-lane.lane within) ∙ more)
+    c.restore_lane.ensures ∙ rw c.loop-lane.invariant (ap (set x c.loop-lane.lane) (element_row c.args.copy.now c.loop-lane.lane within) ∙ more)
 
 pub returns : goal.returns
 returns g c =

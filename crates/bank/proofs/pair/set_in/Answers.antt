@@ -5,8 +5,8 @@ use Rattle.bank.specs.Lanes.{beside}
 use Rattle.bank.specs.Beside.{there_left, there_right, placed_left, placed_right}
 use Rattle.bank.proofs.pair.set_in.Goals as goal
 
-pub returns-then-lane-count-of : goal.returns-then-lane-count-of
-returns-then-lane-count-of g c =
+pub returns-then-lane-count_of : goal.returns-then-lane-count_of
+returns-then-lane-count_of g c =
     let past : length (beside (g.L.Bank.lanes c.args.left.now) (g.R.Bank.lanes c.args.right.now)) ≤ c.args.lane = omega arith in
     record { answer = rw (le-ltb _ _ past); after = sym (set_past _ _ _ past) }
 

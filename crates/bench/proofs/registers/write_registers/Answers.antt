@@ -21,7 +21,7 @@ loop-place-preserved g c =
     let t = there ls c.args.lane (c.loop-place.place - 1) c.requires (omega arith) in
     let e : c.unwrap-byte.result ≡ at ls c.args.lane (c.loop-place.place - 1) = read_value _ _ _ _ c.read.ensures t c.unwrap-byte.ensures in
     sent_more (string_bytes c.args.text.now) (string_bytes c.loop-place.text) _ (get_or ls c.args.lane []) c.loop-place.place c.unwrap-byte.result
-    (omega arith) (omega arith) c.loop-place.invariant e c.in-ok-write-byte.ensures
+    (omega arith) (omega arith) c.loop-place.invariant e c.in_ok-write_byte.ensures
 
 pub returns : goal.returns
 returns g c =

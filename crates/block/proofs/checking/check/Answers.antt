@@ -7,7 +7,7 @@ use Rattle.block.proofs.checking.check.Goals as goal
 pub returns : goal.returns
 returns c =
     let block = c.args.block.now in
-    let long : length block ≡ block_length c.in-ok-depth.depth.lanes = omega arith in
-    let verdict : checked (found c.first-broken.result) ≡ check_of block c.args.depth =
-    check_told block c.args.depth c.in-ok-depth.depth.lanes (found c.first-broken.result) c.in-ok-depth.ensures long c.first-broken.ensures in
-    record { verdict = verdict; accepts = accepts c.args.depth block (checked (found c.first-broken.result)) verdict }
+    let long : length block ≡ block_length c.in_ok-depth.depth.lanes = omega arith in
+    let verdict : checked (found c.first_broken.result) ≡ check_of block c.args.depth =
+    check_told block c.args.depth c.in_ok-depth.depth.lanes (found c.first_broken.result) c.in_ok-depth.ensures long c.first_broken.ensures in
+    record { verdict = verdict; accepts = accepts c.args.depth block (checked (found c.first_broken.result)) verdict }

@@ -3,7 +3,7 @@ use Rattle.calls.proofs.Exits.{refused}
 use Rattle.calls.proofs.NoCalls.{no_bank}
 use Rattle.calls.proofs.words.bank.Goals as goal
 
-pub returns-in-err-plan : goal.returns-in-err-plan
-returns-in-err-plan c =
-    refused _ _ c.from-residual-in-err-plan.ensures.0
-    (no_bank _ (λ id plan plain e. c.in-err-plan.ensures.1 plan (parted c.in-ok-id.ensures _ _ plain e).1))
+pub returns-in_err-plan : goal.returns-in_err-plan
+returns-in_err-plan c =
+    refused _ _ c.from-residual-in_err-plan.ensures.0
+    (no_bank _ (λ id plan plain e. c.in_err-plan.ensures.1 plan (parted c.in_ok-id.ensures _ _ plain e).1))

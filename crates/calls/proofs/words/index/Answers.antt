@@ -3,7 +3,7 @@ use Rattle.std.proofs.lemmas.Result.{MatchResult-from_err}
 use Rattle.tokens.proofs.Decimals.{no_number}
 use Rattle.calls.proofs.words.index.Goals as goal
 
-pub returns-in-err-number : goal.returns-in-err-number
-returns-in-err-number c =
+pub returns-in_err-number : goal.returns-in_err-number
+returns-in_err-number c =
     MatchResult-from_err _ _ _ c.from-residual.ensures.0
-    (λ _. λ n small e. no_number _ _ _ _ c.in-err-number.ensures n (omega arith) small e)
+    (λ _. λ n small e. no_number _ _ _ _ c.in_err-number.ensures n (omega arith) small e)

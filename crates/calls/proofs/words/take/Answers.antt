@@ -4,7 +4,7 @@ use Rattle.calls.proofs.Indices.{behind_index}
 use Rattle.calls.proofs.NoCalls.{no_take}
 use Rattle.calls.proofs.words.take.Goals as goal
 
-pub returns-in-err-byte : goal.returns-in-err-byte
-returns-in-err-byte c =
-    refused _ _ c.from-residual-in-err-byte.ensures.0
-    (no_take _ (λ lane b small few e. no_byte _ _ _ c.in-err-byte.ensures b few (behind_index c.in-ok-lane.ensures small e)))
+pub returns-in_err-byte : goal.returns-in_err-byte
+returns-in_err-byte c =
+    refused _ _ c.from-residual-in_err-byte.ensures.0
+    (no_take _ (λ lane b small few e. no_byte _ _ _ c.in_err-byte.ensures b few (behind_index c.in_ok-lane.ensures small e)))

@@ -17,10 +17,10 @@ returns-then-same g c =
           (sym c.apply-d.ensures ∙ (F.laws.sameness c.apply-d.result c.zero.result).0 (sym c.if-same.ensures) ∙ c.zero.ensures);
     }
 
-pub returns-in-default : goal.returns-in-default
-returns-in-default g c =
+pub returns-in_default : goal.returns-in_default
+returns-in_default g c =
     let F : Lawful _ = record { ops = g.F.Field.ops; laws = g.met.F.Field.laws } in
-    absurd (c.requires.holds.missed (none_of F c.args.found.miss c.in-default.ensures))
+    absurd (c.requires.holds.missed (none_of F c.args.found.miss c.in_default.ensures))
 
 pub returns-then-rest-found : goal.returns-then-rest-found
 returns-then-rest-found g c =

@@ -13,8 +13,8 @@ loop-i-init g c = (
   c.requires.terms_long,
 )
 
-pub next-sum-value-requires : goal.next-sum-value-requires
-next-sum-value-requires g c =
+pub next_sum-value-requires : goal.next_sum-value-requires
+next_sum-value-requires g c =
     let e = ap length c.requires.copied in (
       search rules,
       (
@@ -30,24 +30,24 @@ next-sum-value-requires g c =
       ),
     )
 
-pub returns-then-not-mend-place : goal.returns-then-not-mend-place
-returns-then-not-mend-place g c =
+pub returns-then-not-mend_place : goal.returns-then-not-mend_place
+returns-then-not-mend_place g c =
     record {
-      left_long = c.if-not-mend-place.ensures.left_long;
+      left_long = c.if-not-mend_place.ensures.left_long;
       searched = double (record { ops = g.F.Field.ops; laws = g.met.F.Field.laws }) telemetry c.args.poly.now c.args.word.now c.args.sequence.now c.args.left.now
-          c.loop-i.word c.loop-i.left c.loop-i.terms c.loop-i.place.x c.loop-i.place.scale c.loop-i.i c.loop-i.invariant.0 c.next-sum-value.result c.next-sum-value.ensures.sum
-          c.mend-place.new.word c.mend-place.new.left c.if-not-mend-place.ensures.mended;
+          c.loop-i.word c.loop-i.left c.loop-i.terms c.loop-i.place.x c.loop-i.place.scale c.loop-i.i c.loop-i.invariant.0 c.next_sum-value.result c.next_sum-value.ensures.sum
+          c.mend_place.new.word c.mend_place.new.left c.if-not-mend_place.ensures.mended;
     }
 
 pub loop-i-preserved : goal.loop-i-preserved
 loop-i-preserved g c = (
   next_place (record { ops = g.F.Field.ops; laws = g.met.F.Field.laws }) telemetry c.args.poly.now c.args.word.now c.args.sequence.now c.args.left.now
-      c.loop-i.word c.loop-i.left c.loop-i.terms c.loop-i.place.x c.loop-i.place.scale c.loop-i.i c.loop-i.invariant.0 c.next-sum-value.result c.next-sum-value.ensures.sum
-      c.mend-place.new.word c.mend-place.new.left (omega (arith, c.loop-i.invariant.1)) c.loop-i.invariant.2 c.args.steps.now c.next-sum-value.new.terms c.args.gamma c.args.lead c.next-place-place.result.x c.next-place-place.result.scale
-      c.args.degree c.requires.above c.requires.steps-room c.requires.powers c.requires.base c.requires.first c.next-sum-value.ensures.terms c.next-place-place.ensures.x c.next-place-place.ensures.scale c.if-not-mend-place.ensures.mended,
-  c.if-not-mend-place.ensures.long,
-  c.if-not-mend-place.ensures.left_long,
-  c.next-sum-value.ensures.long,
+      c.loop-i.word c.loop-i.left c.loop-i.terms c.loop-i.place.x c.loop-i.place.scale c.loop-i.i c.loop-i.invariant.0 c.next_sum-value.result c.next_sum-value.ensures.sum
+      c.mend_place.new.word c.mend_place.new.left (omega (arith, c.loop-i.invariant.1)) c.loop-i.invariant.2 c.args.steps.now c.next_sum-value.new.terms c.args.gamma c.args.lead c.next_place-place.result.x c.next_place-place.result.scale
+      c.args.degree c.requires.above c.requires.steps-room c.requires.powers c.requires.base c.requires.first c.next_sum-value.ensures.terms c.next_place-place.ensures.x c.next_place-place.ensures.scale c.if-not-mend_place.ensures.mended,
+  c.if-not-mend_place.ensures.long,
+  c.if-not-mend_place.ensures.left_long,
+  c.next_sum-value.ensures.long,
 )
 
 pub returns : goal.returns

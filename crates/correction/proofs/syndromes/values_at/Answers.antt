@@ -21,9 +21,9 @@ pub loop-i-preserved : goal.loop-i-preserved
 loop-i-preserved g c =
     let F : Lawful _ = record { ops = g.F.Field.ops; laws = g.met.F.Field.laws } in (
       λ k h.
-          values_next F c.args.coefficients.now c.args.points.now c.loop-i.values c.horner-step.new.values 32 c.loop-i.i k c.index-coefficients-i.result
-          (omega arith) (omega arith) c.index-coefficients-i.is h c.horner-step.ensures.step c.loop-i.invariant.0,
-      c.horner-step.ensures.long,
+          values_next F c.args.coefficients.now c.args.points.now c.loop-i.values c.horner_step.new.values 32 c.loop-i.i k c.index-coefficients-i.result
+          (omega arith) (omega arith) c.index-coefficients-i.is h c.horner_step.ensures.step c.loop-i.invariant.0,
+      c.horner_step.ensures.long,
     )
 
 pub returns : goal.returns

@@ -3,6 +3,6 @@ use Rattle.desk.proofs.questions.push_word.Goals as goal
 
 pub returns : goal.returns
 returns c =
-    let blank : string_bytes c.push-str.new.self ≡ string_bytes c.args.text.now ++ (32 ∷ []) = c.in-ok-push-str.ensures.bytes in
-    let word : string_bytes c.push-str-2.new.self ≡ string_bytes c.push-str.new.self ++ c.args.word.now = c.in-ok-push-str-2.ensures.bytes in
+    let blank : string_bytes c.push_str.new.self ≡ string_bytes c.args.text.now ++ (32 ∷ []) = c.in_ok-push_str.ensures.bytes in
+    let word : string_bytes c.push_str-2.new.self ≡ string_bytes c.push_str.new.self ++ c.args.word.now = c.in_ok-push_str-2.ensures.bytes in
     word ∙ ap (λ t. t ++ c.args.word.now) blank ∙ append_assoc (string_bytes c.args.text.now) (32 ∷ []) c.args.word.now

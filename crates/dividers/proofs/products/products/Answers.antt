@@ -6,6 +6,6 @@ use Rattle.dividers.specs.Bits.{basis, mask_of, masks_right}
 use Rattle.dividers.specs.Coefficients.{coefficient_byte}
 use Rattle.dividers.proofs.products.products.Goals as goal
 
-pub products-in-requires : goal.products-in-requires
+pub products_in-requires : goal.products_in-requires
 unfolding times_alpha alpha_byte scaled product squares trace dual_exponents basis mask_of coefficient_byte tabulates masks_right
-products-in-requires c = record { rule = refl }
+products_in-requires c = record { rule = refl }

@@ -9,11 +9,11 @@ loop-bit-init c = (refl, λ k h. ap (pushed 8 c.args.f (get_or c.args.masks.now 
 
 pub loop-bit-preserved : goal.loop-bit-preserved
 loop-bit-preserved c =
-    let i = c.loop-bit.-bit in
+    let i = c.loop-bit._bit in
     let masks = c.args.masks.now in (
-      c.push-bits.ensures.long,
+      c.push_bits.ensures.long,
       λ k h.
-          ap₂ (λ z p. pushed (8 - (i + 1)) z (get_or masks k 0) p) c.beta-times-z.ensures (c.push-bits.ensures.each k h)
+          ap₂ (λ z p. pushed (8 - (i + 1)) z (get_or masks k 0) p) c.beta_times-z.ensures (c.push_bits.ensures.each k h)
           ∙ pushed_next i c.loop-bit.z (get_or masks k 0) (get_or c.loop-bit.products k 0) c.loop-bit-test.true
           ∙ c.loop-bit.invariant.1 k h,
     )
@@ -22,4 +22,4 @@ pub returns : goal.returns
 returns c = λ k h.
     let masks = c.args.masks.now in
     pushed_all masks c.requires.rule c.args.f k _ (omega arith) h
-    (sym (pushed_none c.loop-bit.-bit c.loop-bit.z (get_or masks k 0) _ c.loop-bit-test.false) ∙ c.loop-bit.invariant.1 k h)
+    (sym (pushed_none c.loop-bit._bit c.loop-bit.z (get_or masks k 0) _ c.loop-bit-test.false) ∙ c.loop-bit.invariant.1 k h)

@@ -5,6 +5,6 @@ use Rattle.dividers.specs.Coefficients.{coefficient_byte}
 use Rattle.dividers.specs.Rows.{rows_right}
 use Rattle.dividers.proofs.rows.row.Goals as goal
 
-pub row-in-requires : goal.row-in-requires
+pub row_in-requires : goal.row_in-requires
 unfolding times_alpha alpha_byte scaled product coefficient_byte tabulates rows_right
-row-in-requires c = record { rule = refl }
+row_in-requires c = record { rule = refl }

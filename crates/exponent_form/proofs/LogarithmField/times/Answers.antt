@@ -10,4 +10,4 @@ pub returns-in-Star-other : goal.returns-in-Star-other
 returns-in-Star-other c = product_star_right c.args.self ∙ sym (ap (logarithm_ops.product c.args.self) c.in-Star-other.is)
 
 pub returns-in-Of-other : goal.returns-in-Of-other
-returns-in-Of-other c = logarithm_product c.in-Of.m c.in-Of-other.n _ c.exponents-added.ensures ∙ sym (ap₂ logarithm_ops.product c.in-Of.is c.in-Of-other.is)
+returns-in-Of-other c = logarithm_product c.in-Of.m c.in-Of-other.n _ c.exponents_added.ensures ∙ sym (ap₂ logarithm_ops.product c.in-Of.is c.in-Of-other.is)

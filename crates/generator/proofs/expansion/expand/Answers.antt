@@ -13,15 +13,15 @@ loop-k-init g c =
       factor_none F (λ k. gamma_power F.ops telemetry (c.args.first + k)) c.args.roots c.args.coefficients.now c.one.result c.requires.zeros c.one.ensures,
     )
 
-pub multiply-by-root-requires : goal.multiply-by-root-requires
-multiply-by-root-requires g c = (search rules, omega (arith, c.loop-k.invariant.0, c.requires.full))
+pub multiply_by_root-requires : goal.multiply_by_root-requires
+multiply_by_root-requires g c = (search rules, omega (arith, c.loop-k.invariant.0, c.requires.full))
 
 pub loop-k-preserved : goal.loop-k-preserved
 loop-k-preserved g c =
     let F : Lawful _ = record { ops = g.F.Field.ops; laws = g.met.F.Field.laws } in (
-      c.multiply-by-root.ensures.long ∙ c.loop-k.invariant.0,
-      factor_next F (λ k. gamma_power F.ops telemetry (c.args.first + k)) c.args.roots c.loop-k.k c.loop-k.coefficients c.multiply-by-root.new.coefficients
-          c.loop-k.invariant.0 c.loop-k-test.true c.loop-k.invariant.1 c.multiply-by-root.ensures,
+      c.multiply_by_root.ensures.long ∙ c.loop-k.invariant.0,
+      factor_next F (λ k. gamma_power F.ops telemetry (c.args.first + k)) c.args.roots c.loop-k.k c.loop-k.coefficients c.multiply_by_root.new.coefficients
+          c.loop-k.invariant.0 c.loop-k-test.true c.loop-k.invariant.1 c.multiply_by_root.ensures,
     )
 
 pub returns : goal.returns

@@ -3,4 +3,4 @@ use Rattle.generator.specs.Text.{line}
 use Rattle.generator.proofs.exponents.coefficients_line.Goals as goal
 
 pub returns : goal.returns
-returns c = subst (λ ns. IfOk c.line.result (λ s. string_bytes s ≡ line ns)) c.coefficient-exponents-exponents.ensures c.line.ensures
+returns c = subst (λ ns. IfOk c.line.result (λ s. string_bytes s ≡ line ns)) c.coefficient_exponents-exponents.ensures c.line.ensures

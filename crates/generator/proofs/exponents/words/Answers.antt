@@ -5,11 +5,11 @@ use Rattle.generator.proofs.Copies.{joined_first, joined_more}
 use Rattle.generator.proofs.exponents.words.Goals as goal
 
 pub loop-i-init : goal.loop-i-init
-loop-i-init c = c.in-ok-text.ensures ∙ joined_first c.args.exponents.now _ (omega arith)
+loop-i-init c = c.in_ok-text.ensures ∙ joined_first c.args.exponents.now _ (omega arith)
 
 pub loop-i-preserved : goal.loop-i-preserved
 loop-i-preserved c =
-    c.in-ok-text-2.ensures
+    c.in_ok-text-2.ensures
     ∙ joined_more c.args.exponents.now c.loop-i.i _ (string_bytes c.loop-i.text) (omega arith) (omega arith) c.loop-i.invariant
 
 pub returns : goal.returns

@@ -13,7 +13,7 @@ pub returns : goal.returns
 unfolding listed
 returns c =
     let k = c.args.kinds.now in
-    lanes_assembled k.count c.before-last.result c.in-ok-single.single c.in-ok-left.left c.in-ok-right.right c.new-4.result c.new-5.result
-    (omega (arith, c.if-kinds-eq0.false)) k.few c.before-last.ensures c.in-ok-single.ensures.0 c.in-ok-left.ensures.0 c.in-ok-right.ensures.0
+    lanes_assembled k.count c.before_last.result c.in_ok-single.single c.in_ok-left.left c.in_ok-right.right c.new-4.result c.new-5.result
+    (omega (arith, c.if-kinds-eq0.false)) k.few c.before_last.ensures c.in_ok-single.ensures.0 c.in_ok-left.ensures.0 c.in_ok-right.ensures.0
     c.new-4.ensures.left c.new-4.ensures.right c.new-5.ensures.first c.new-5.ensures.second c.new-5.ensures.chosen
     ∙ ap (λ n. replicate n zeros) (sym (length-take-le k.count k.kinds (omega (arith, k.few, k.all))))

@@ -6,32 +6,32 @@ use Rattle.lineup.specs.Plans.{dividers_of, lanes_of}
 use Rattle.lineup.proofs.Assembled.{lanes_planned, counted_divider, holder_told, whole_none, longer_none, whole_text}
 use Rattle.lineup.proofs.building.bank_of.Goals as goal
 
-pub returns-in-err-rest : goal.returns-in-err-rest
-returns-in-err-rest c = rw c.from-residual.ensures (whole_none 64 c.args.text.now c.in-err-rest.ensures)
+pub returns-in_err-rest : goal.returns-in_err-rest
+returns-in_err-rest c = rw c.from-residual.ensures (whole_none 64 c.args.text.now c.in_err-rest.ensures)
 
-pub returns-then-not-is-empty : goal.returns-then-not-is-empty
-returns-then-not-is-empty c =
-    let l = c.in-ok-rest.ensures in
-    longer_none 64 c.args.text.now c.in-ok-rest.rest.now l.plan l.begins (sym c.if-not-is-empty.ensures)
+pub returns-then-not-is_empty : goal.returns-then-not-is_empty
+returns-then-not-is_empty c =
+    let l = c.in_ok-rest.ensures in
+    longer_none 64 c.args.text.now c.in_ok-rest.rest.now l.plan l.begins (sym c.if-not-is_empty.ensures)
 
-pub returns-in-err-bank : goal.returns-in-err-bank
-returns-in-err-bank c =
-    let l = c.in-ok-rest.ensures in
-    let e : listed c.read-part.new.kinds ≡ first_eight (dividers_of l.plan) = l.kinds ∙ ap (λ k. first_eight (k ++ dividers_of l.plan)) c.new-kinds.ensures in
-    absurd (counted_divider 64 l.plan l.begins.within (sym e ∙ c.in-err-bank.ensures))
+pub returns-in_err-bank : goal.returns-in_err-bank
+returns-in_err-bank c =
+    let l = c.in_ok-rest.ensures in
+    let e : listed c.read_part.new.kinds ≡ first_eight (dividers_of l.plan) = l.kinds ∙ ap (λ k. first_eight (k ++ dividers_of l.plan)) c.new-kinds.ensures in
+    absurd (counted_divider 64 l.plan l.begins.within (sym e ∙ c.in_err-bank.ensures))
 
 pub returns : goal.returns
 returns c =
-    let l = c.in-ok-rest.ensures in
-    let e : listed c.read-part.new.kinds ≡ first_eight (dividers_of l.plan) = l.kinds ∙ ap (λ k. first_eight (k ++ dividers_of l.plan)) c.new-kinds.ensures in
-    let text_is = whole_text 64 c.args.text.now c.in-ok-rest.rest.now l.plan l.begins (sym c.if-not-is-empty.ensures) in
+    let l = c.in_ok-rest.ensures in
+    let e : listed c.read_part.new.kinds ≡ first_eight (dividers_of l.plan) = l.kinds ∙ ap (λ k. first_eight (k ++ dividers_of l.plan)) c.new-kinds.ensures in
+    let text_is = whole_text 64 c.args.text.now c.in_ok-rest.rest.now l.plan l.begins (sym c.if-not-is_empty.ensures) in
     let lanes : assembly_lanes c.new.result.bank ≡ lanes_of l.plan =
-    ap assembly_lanes c.new.ensures.bank ∙ c.in-ok-bank.ensures ∙ ap (λ k. replicate (length k) zeros) e ∙ sym (lanes_planned 64 l.plan l.begins.within) in
+    ap assembly_lanes c.new.ensures.bank ∙ c.in_ok-bank.ensures ∙ ap (λ k. replicate (length k) zeros) e ∙ sym (lanes_planned 64 l.plan l.begins.within) in
     record {
       plan = l.plan;
       within = l.begins.within;
       text_is = text_is;
       lanes = lanes;
       copy = c.new.ensures.copy ∙ ap all_cleared lanes;
-      holds = c.begins-as-holder.ensures ∙ ap (λ t. eqb (get_or t 0 0) 104) text_is ∙ holder_told 64 l.plan l.begins.within;
+      holds = c.begins_as_holder.ensures ∙ ap (λ t. eqb (get_or t 0 0) 104) text_is ∙ holder_told 64 l.plan l.begins.within;
     }

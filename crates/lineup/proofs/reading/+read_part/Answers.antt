@@ -4,76 +4,76 @@ use Rattle.lineup.proofs.Parts.{cases_both, listed_table, listed_serial, listed_
 use Rattle.lineup.proofs.Texts.{no_text, no_first, holder_unopened, holder_empty, holder_unclosed, pair_empty, pair_unsplit, pair_half, pair_unclosed}
 use Rattle.lineup.proofs.reading.+read_part.Goals as goal
 
-pub returns-in-err-first : goal.returns-in-err-first
-returns-in-err-first t c = rw c.from-residual.ensures (no_text c.args.depth c.args.text.now c.in-err-first.ensures)
+pub returns-in_err-first : goal.returns-in_err-first
+returns-in_err-first t c = rw c.from-residual.ensures (no_text c.args.depth c.args.text.now c.in_err-first.ensures)
 
-pub returns-in-err-inner : goal.returns-in-err-inner
-returns-in-err-inner t c =
-    let e = c.in-ok-first.ensures ∙ ap (λ b. b ∷ c.in-ok-first.rest.now) c.in-104.is in
-    rw c.from-residual-in-err-inner.ensures (holder_unopened c.args.depth c.args.text.now _ e c.in-err-inner.ensures)
+pub returns-in_err-inner : goal.returns-in_err-inner
+returns-in_err-inner t c =
+    let e = c.in_ok-first.ensures ∙ ap (λ b. b ∷ c.in_ok-first.rest.now) c.in-104.is in
+    rw c.from-residual-in_err-inner.ensures (holder_unopened c.args.depth c.args.text.now _ e c.in_err-inner.ensures)
 
-pub returns-in-err-rest : goal.returns-in-err-rest
-returns-in-err-rest t c =
-    let e = c.in-ok-first.ensures ∙ ap (λ b. b ∷ c.in-ok-first.rest.now) c.in-104.is in
-    rw c.from-residual-in-err-rest.ensures (holder_empty c.args.depth c.args.text.now _ e _ c.in-ok-inner.ensures c.in-err-rest.ensures)
+pub returns-in_err-rest : goal.returns-in_err-rest
+returns-in_err-rest t c =
+    let e = c.in_ok-first.ensures ∙ ap (λ b. b ∷ c.in_ok-first.rest.now) c.in-104.is in
+    rw c.from-residual-in_err-rest.ensures (holder_empty c.args.depth c.args.text.now _ e _ c.in_ok-inner.ensures c.in_err-rest.ensures)
 
-pub returns-in-err-rest-2 : goal.returns-in-err-rest-2
-returns-in-err-rest-2 t c =
-    let e = c.in-ok-first.ensures ∙ ap (λ b. b ∷ c.in-ok-first.rest.now) c.in-40.is in
-    rw c.from-residual-in-err-rest-2.ensures (pair_empty c.args.depth c.args.text.now _ e c.in-err-rest-2.ensures)
+pub returns-in_err-rest-2 : goal.returns-in_err-rest-2
+returns-in_err-rest-2 t c =
+    let e = c.in_ok-first.ensures ∙ ap (λ b. b ∷ c.in_ok-first.rest.now) c.in-40.is in
+    rw c.from-residual-in_err-rest-2.ensures (pair_empty c.args.depth c.args.text.now _ e c.in_err-rest-2.ensures)
 
-pub returns-in-err-rest-3 : goal.returns-in-err-rest-3
-returns-in-err-rest-3 t c =
-    let e = c.in-ok-first.ensures ∙ ap (λ b. b ∷ c.in-ok-first.rest.now) c.in-40.is in
-    let left = c.in-ok-rest-2.ensures in
-    rw c.from-residual-in-err-rest-3.ensures (pair_unsplit c.args.depth c.args.text.now _ e left.plan _ left.begins c.in-err-rest-3.ensures)
+pub returns-in_err-rest-3 : goal.returns-in_err-rest-3
+returns-in_err-rest-3 t c =
+    let e = c.in_ok-first.ensures ∙ ap (λ b. b ∷ c.in_ok-first.rest.now) c.in-40.is in
+    let left = c.in_ok-rest-2.ensures in
+    rw c.from-residual-in_err-rest-3.ensures (pair_unsplit c.args.depth c.args.text.now _ e left.plan _ left.begins c.in_err-rest-3.ensures)
 
-pub returns-in-err-rest-4 : goal.returns-in-err-rest-4
-returns-in-err-rest-4 t c =
-    let e = c.in-ok-first.ensures ∙ ap (λ b. b ∷ c.in-ok-first.rest.now) c.in-40.is in
-    let left = c.in-ok-rest-2.ensures in
-    rw c.from-residual-in-err-rest-4.ensures
-    (pair_half c.args.depth c.args.text.now _ e left.plan _ left.begins _ c.in-ok-rest-3.ensures c.in-err-rest-4.ensures)
+pub returns-in_err-rest-4 : goal.returns-in_err-rest-4
+returns-in_err-rest-4 t c =
+    let e = c.in_ok-first.ensures ∙ ap (λ b. b ∷ c.in_ok-first.rest.now) c.in-40.is in
+    let left = c.in_ok-rest-2.ensures in
+    rw c.from-residual-in_err-rest-4.ensures
+    (pair_half c.args.depth c.args.text.now _ e left.plan _ left.begins _ c.in_ok-rest-3.ensures c.in_err-rest-4.ensures)
 
 pub returns-in-84 : goal.returns-in-84
 unfolding dividers_of
 returns-in-84 t c =
     listed_table c.args.depth c.args.text.now _ c.args.kinds.now c.push.new.self
-    (c.in-ok-first.ensures ∙ ap (λ b. b ∷ c.in-ok-first.rest.now) c.in-84.is) c.push.ensures
+    (c.in_ok-first.ensures ∙ ap (λ b. b ∷ c.in_ok-first.rest.now) c.in-84.is) c.push.ensures
 
 pub returns-in-66 : goal.returns-in-66
 unfolding dividers_of
 returns-in-66 t c =
     listed_serial c.args.depth c.args.text.now _ c.args.kinds.now c.push-in-66.new.self
-    (c.in-ok-first.ensures ∙ ap (λ b. b ∷ c.in-ok-first.rest.now) c.in-66.is) c.push-in-66.ensures
+    (c.in_ok-first.ensures ∙ ap (λ b. b ∷ c.in_ok-first.rest.now) c.in-66.is) c.push-in-66.ensures
 
 pub returns-in-50-to-56 : goal.returns-in-50-to-56
 unfolding dividers_of
 returns-in-50-to-56 t c =
-    listed_tables c.args.depth c.args.text.now _ c.args.kinds.now c.push-tables.new.self c.in-ok-first.first
-    c.in-ok-first.ensures (search rules) (search rules) c.push-tables.ensures
+    listed_tables c.args.depth c.args.text.now _ c.args.kinds.now c.push_tables.new.self c.in_ok-first.first
+    c.in_ok-first.ensures (search rules) (search rules) c.push_tables.ensures
 
-pub returns-in-ok-rest : goal.returns-in-ok-rest
-returns-in-ok-rest t c =
-    let e = c.in-ok-first.ensures ∙ ap (λ b. b ∷ c.in-ok-first.rest.now) c.in-104.is in
-    let inner = c.in-ok-inner.ensures in
-    let read = c.in-ok-rest.ensures in
+pub returns-in_ok-rest : goal.returns-in_ok-rest
+returns-in_ok-rest t c =
+    let e = c.in_ok-first.ensures ∙ ap (λ b. b ∷ c.in_ok-first.rest.now) c.in-104.is in
+    let inner = c.in_ok-inner.ensures in
+    let read = c.in_ok-rest.ensures in
     cases_both c.after-in-104.result c.after-in-104.ensures
     (holder_unclosed c.args.depth c.args.text.now _ e _ inner read.plan _ read.begins)
-    (λ rest closed. listed_holder c.args.depth c.args.text.now rest.now c.args.kinds.now c.read-part.new.kinds _ _ _ c.if-depth-gt0.true e inner read closed)
+    (λ rest closed. listed_holder c.args.depth c.args.text.now rest.now c.args.kinds.now c.read_part.new.kinds _ _ _ c.if-depth-gt0.true e inner read closed)
 
-pub returns-in-ok-rest-4 : goal.returns-in-ok-rest-4
-returns-in-ok-rest-4 t c =
-    let e = c.in-ok-first.ensures ∙ ap (λ b. b ∷ c.in-ok-first.rest.now) c.in-40.is in
-    let left = c.in-ok-rest-2.ensures in
-    let comma = c.in-ok-rest-3.ensures in
-    let right = c.in-ok-rest-4.ensures in
+pub returns-in_ok-rest-4 : goal.returns-in_ok-rest-4
+returns-in_ok-rest-4 t c =
+    let e = c.in_ok-first.ensures ∙ ap (λ b. b ∷ c.in_ok-first.rest.now) c.in-40.is in
+    let left = c.in_ok-rest-2.ensures in
+    let comma = c.in_ok-rest-3.ensures in
+    let right = c.in_ok-rest-4.ensures in
     cases_both c.after-in-40-2.result c.after-in-40-2.ensures
     (pair_unclosed c.args.depth c.args.text.now _ e left.plan _ left.begins _ comma right.plan _ right.begins)
-    (λ rest closed. listed_pair c.args.depth c.args.text.now rest.now c.args.kinds.now c.read-part-in-40-2.new.kinds _ _ _ _ c.read-part-in-40.new.kinds
+    (λ rest closed. listed_pair c.args.depth c.args.text.now rest.now c.args.kinds.now c.read_part-in-40-2.new.kinds _ _ _ _ c.read_part-in-40.new.kinds
     c.if-depth-gt0-2.true e left comma right closed)
 
-pub returns-in-default : goal.returns-in-default
-returns-in-default t c =
-    no_first c.args.depth c.args.text.now c.in-ok-first.first _ c.in-ok-first.ensures (λ e. search rules) (λ e. search rules) (λ low high. search rules)
+pub returns-in_default : goal.returns-in_default
+returns-in_default t c =
+    no_first c.args.depth c.args.text.now c.in_ok-first.first _ c.in_ok-first.ensures (λ e. search rules) (λ e. search rules) (λ low high. search rules)
     (λ e d. search rules) (λ e d. search rules)

@@ -1,4 +1,4 @@
 use Rattle.lineup.proofs.reading.+read_part.Given as goal
 
-abbrev pub decreases-read-part : goal.decreases-read-part
-decreases-read-part l = l.depth
+abbrev pub decreases-read_part : goal.decreases-read_part
+decreases-read_part l = l.depth

@@ -3,6 +3,6 @@ use Rattle.power_form.specs.Arithmetic.{times_alpha}
 use Rattle.power_form.specs.Chain.{chain}
 use Rattle.power_form.proofs.tables.power_at.Goals as goal
 
-pub power-in-requires : goal.power-in-requires
+pub power_in-requires : goal.power_in-requires
 unfolding times_alpha chain
-power-in-requires c = record { rule = refl; below = c.requires }
+power_in-requires c = record { rule = refl; below = c.requires }

@@ -10,25 +10,25 @@ unfolding row
 returns c = record {
   lanes =
       rw (
-        c.divider-at.ensures.lanes,
-        c.divider-at-2.ensures.lanes,
-        c.divider-at-3.ensures.lanes,
-        c.divider-at-4.ensures.lanes,
-        c.divider-at-5.ensures.lanes,
-        c.divider-at-6.ensures.lanes,
-        c.divider-at-7.ensures.lanes,
-        c.divider-at-8.ensures.lanes,
+        c.divider_at.ensures.lanes,
+        c.divider_at-2.ensures.lanes,
+        c.divider_at-3.ensures.lanes,
+        c.divider_at-4.ensures.lanes,
+        c.divider_at-5.ensures.lanes,
+        c.divider_at-6.ensures.lanes,
+        c.divider_at-7.ensures.lanes,
+        c.divider_at-8.ensures.lanes,
       );
   kinds =
       rw (
-        c.divider-at.ensures.kind,
-        c.divider-at-2.ensures.kind,
-        c.divider-at-3.ensures.kind,
-        c.divider-at-4.ensures.kind,
-        c.divider-at-5.ensures.kind,
-        c.divider-at-6.ensures.kind,
-        c.divider-at-7.ensures.kind,
-        c.divider-at-8.ensures.kind,
+        c.divider_at.ensures.kind,
+        c.divider_at-2.ensures.kind,
+        c.divider_at-3.ensures.kind,
+        c.divider_at-4.ensures.kind,
+        c.divider_at-5.ensures.kind,
+        c.divider_at-6.ensures.kind,
+        c.divider_at-7.ensures.kind,
+        c.divider_at-8.ensures.kind,
       )
       (sym (ap (map is_table) (eight Table c.args.kinds.now c.requires)));
   all = refl;

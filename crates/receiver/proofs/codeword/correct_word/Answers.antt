@@ -8,19 +8,19 @@ use Rattle.receiver.specs.Words.{word_of}
 use Rattle.receiver.proofs.Remainders.{clean_word, corrected_word}
 use Rattle.receiver.proofs.codeword.correct_word.Goals as goal
 
-pub returns-then-is-zero : goal.returns-then-is-zero
-returns-then-is-zero c =
-    clean_word c.args.bytes.now c.remainder-of-remainder.result c.told-bytes c.remainder-of-remainder.ensures (c.is-zero.ensures c.if-is-zero.true)
+pub returns-then-is_zero : goal.returns-then-is_zero
+returns-then-is_zero c =
+    clean_word c.args.bytes.now c.remainder_of-remainder.result c.told-bytes c.remainder_of-remainder.ensures (c.is_zero.ensures c.if-is_zero.true)
 
 pub returns : goal.returns
 returns c =
-    subst (λ w. CorrectedIn dual_ops telemetry (word_of c.args.bytes.now) w c.in-ok-wrong.wrong) (sym c.write-word.ensures)
-    (corrected_word {E = NoCodeword} c.args.bytes.now c.power-word-word.result c.correct.new.word c.remainder-of-remainder.result (Ok c.in-ok-wrong.wrong)
-    c.power-word-word.ensures c.remainder-of-remainder.ensures (c.in-ok-wrong.ensures refl))
+    subst (λ w. CorrectedIn dual_ops telemetry (word_of c.args.bytes.now) w c.in_ok-wrong.wrong) (sym c.write_word.ensures)
+    (corrected_word {E = NoCodeword} c.args.bytes.now c.power_word-word.result c.correct.new.word c.remainder_of-remainder.result (Ok c.in_ok-wrong.wrong)
+    c.power_word-word.ensures c.remainder_of-remainder.ensures (c.in_ok-wrong.ensures refl))
 
-pub returns-in-err-wrong : goal.returns-in-err-wrong
-returns-in-err-wrong c =
+pub returns-in_err-wrong : goal.returns-in_err-wrong
+returns-in_err-wrong c =
     let p = err_from_is_err_and c.from-residual.result c.from-residual.ensures.1 in
-    let told = corrected_word {E = NoCodeword} c.args.bytes.now c.power-word-word.result c.correct.new.word c.remainder-of-remainder.result (Err c.in-err-wrong.field-0.0)
-    c.power-word-word.ensures c.remainder-of-remainder.ensures (c.in-err-wrong.ensures refl) in
+    let told = corrected_word {E = NoCodeword} c.args.bytes.now c.power_word-word.result c.correct.new.word c.remainder_of-remainder.result (Err c.in_err-wrong.field-0.0)
+    c.power_word-word.ensures c.remainder_of-remainder.ensures (c.in_err-wrong.ensures refl) in
     rw p.1 (refl, told.1)

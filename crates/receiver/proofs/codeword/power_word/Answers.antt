@@ -10,7 +10,7 @@ pub loop-k-preserved : goal.loop-k-preserved
 loop-k-preserved c =
     let at : ℕ → Power = λ j. power_of_dual (symbol (get_or c.args.bytes.now (254 - j) 0)) in (
       simp length-set c.loop-k.invariant.0,
-      λ j h. ap (λ x. get_or (set c.loop-k.word c.loop-k.k x) j (element 0)) (c.to-power.ensures ∙ ap power_of_dual c.new.ensures)
+      λ j h. ap (λ x. get_or (set c.loop-k.word c.loop-k.k x) j (element 0)) (c.to_power.ensures ∙ ap power_of_dual c.new.ensures)
           ∙ fill_by_more at c.loop-k.word c.loop-k.k (element 0) (omega (arith, c.loop-k.invariant.0)) c.loop-k.invariant.1 j h,
     )
 

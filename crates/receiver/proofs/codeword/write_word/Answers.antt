@@ -11,7 +11,7 @@ loop-i-preserved c =
     let at : ℕ → ℕ = λ j. (dual_of_power (get_or c.args.word.now (254 - j) (element 0))).byte in (
       simp length-set c.loop-i.invariant.0,
       λ j h. ap (λ x. get_or (set c.loop-i.bytes c.loop-i.i x.byte) j 0)
-          (c.of-power.ensures ∙ ap dual_of_power (get_or_default c.args.word.now (254 - c.loop-i.i) c.index-word-i.result (element 0) (omega (arith, c.told-word))))
+          (c.of_power.ensures ∙ ap dual_of_power (get_or_default c.args.word.now (254 - c.loop-i.i) c.index-word-i.result (element 0) (omega (arith, c.told-word))))
           ∙ fill_by_more at c.loop-i.bytes c.loop-i.i 0 (omega (arith, c.loop-i.invariant.0)) c.loop-i.invariant.1 j h,
     )
 

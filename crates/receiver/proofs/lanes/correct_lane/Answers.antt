@@ -13,7 +13,7 @@ returns-in-Ok c =
     let d = c.args.depth.lanes in
     let block = c.args.block.now in
     let told = c.in-Ok.ensures in
-    let found = word_of c.correct-word.new.bytes in
-    subst (λ n. LaneRead d block c.args.lane n c.args.message.now c.write-lane.new.message) (sym (told.count ∙ ap (λ v. distance dual_ops v found) c.lane-bytes-bytes.ensures))
-    (read_more d block c.args.lane c.args.message.now c.write-lane.new.message found c.requires.inside
-    (subst (λ v. Near dual_ops telemetry v found) c.lane-bytes-bytes.ensures told.near) c.write-lane.ensures.written c.write-lane.ensures.others)
+    let found = word_of c.correct_word.new.bytes in
+    subst (λ n. LaneRead d block c.args.lane n c.args.message.now c.write_lane.new.message) (sym (told.count ∙ ap (λ v. distance dual_ops v found) c.lane_bytes-bytes.ensures))
+    (read_more d block c.args.lane c.args.message.now c.write_lane.new.message found c.requires.inside
+    (subst (λ v. Near dual_ops telemetry v found) c.lane_bytes-bytes.ensures told.near) c.write_lane.ensures.written c.write_lane.ensures.others)

@@ -10,41 +10,41 @@ use Rattle.requests.proofs.read.check.Goals as goal
 depth_word : (d : ℕ) → d < 2 ^ 64 → Plain (codes "depth=" ++ decimal d)
 depth_word d small = plain_key (codes "depth=") (decimal d) (lacks_told (codes "depth=") refl) (plain_decimal d small)
 
-pub returns-in-err-depth : goal.returns-in-err-depth
-returns-in-err-depth c =
-    refused _ _ c.from-residual-in-err-depth.ensures.0
+pub returns-in_err-depth : goal.returns-in_err-depth
+returns-in_err-depth c =
+    refused _ _ c.from-residual-in_err-depth.ensures.0
     (no_check _ (λ id d bs plain small ok e.
-    let p = parted c.in-ok-id.ensures _ _ plain e in
-    c.in-err-depth.ensures.1 (codes "depth=" ++ decimal d) (codes "block=" ++ shown_bytes bs) (depth_word d small) p.1))
+    let p = parted c.in_ok-id.ensures _ _ plain e in
+    c.in_err-depth.ensures.1 (codes "depth=" ++ decimal d) (codes "block=" ++ shown_bytes bs) (depth_word d small) p.1))
 
-pub returns-in-err-keyed : goal.returns-in-err-keyed
-returns-in-err-keyed c =
-    refused _ _ c.from-residual-in-err-keyed.ensures.0
+pub returns-in_err-keyed : goal.returns-in_err-keyed
+returns-in_err-keyed c =
+    refused _ _ c.from-residual-in_err-keyed.ensures.0
     (no_check _ (λ id d bs plain small ok e.
-    let p = parted c.in-ok-id.ensures _ _ plain e in
-    let q = parted c.in-ok-depth.ensures (codes "depth=" ++ decimal d) (codes "block=" ++ shown_bytes bs) (depth_word d small) p.1 in
-    c.in-err-keyed.ensures.1 (decimal d) q.0))
+    let p = parted c.in_ok-id.ensures _ _ plain e in
+    let q = parted c.in_ok-depth.ensures (codes "depth=" ++ decimal d) (codes "block=" ++ shown_bytes bs) (depth_word d small) p.1 in
+    c.in_err-keyed.ensures.1 (decimal d) q.0))
 
-pub returns-in-err-depth-2 : goal.returns-in-err-depth-2
-returns-in-err-depth-2 c =
-    refused _ _ c.from-residual-in-err-depth-2.ensures.0
+pub returns-in_err-depth-2 : goal.returns-in_err-depth-2
+returns-in_err-depth-2 c =
+    refused _ _ c.from-residual-in_err-depth-2.ensures.0
     (no_check _ (λ id d bs plain small ok e.
-    let p = parted c.in-ok-id.ensures _ _ plain e in
-    let q = parted c.in-ok-depth.ensures (codes "depth=" ++ decimal d) (codes "block=" ++ shown_bytes bs) (depth_word d small) p.1 in
-    no_number _ _ _ _ c.in-err-depth-2.ensures d (omega arith) small (unkeyed (codes "depth=") _ _ (sym c.in-ok-keyed.ensures.text ∙ q.0))))
+    let p = parted c.in_ok-id.ensures _ _ plain e in
+    let q = parted c.in_ok-depth.ensures (codes "depth=" ++ decimal d) (codes "block=" ++ shown_bytes bs) (depth_word d small) p.1 in
+    no_number _ _ _ _ c.in_err-depth-2.ensures d (omega arith) small (unkeyed (codes "depth=") _ _ (sym c.in_ok-keyed.ensures.text ∙ q.0))))
 
-pub returns-in-err-keyed-2 : goal.returns-in-err-keyed-2
-returns-in-err-keyed-2 c =
-    refused _ _ c.from-residual-in-err-keyed-2.ensures.0
+pub returns-in_err-keyed-2 : goal.returns-in_err-keyed-2
+returns-in_err-keyed-2 c =
+    refused _ _ c.from-residual-in_err-keyed-2.ensures.0
     (no_check _ (λ id d bs plain small ok e.
-    let p = parted c.in-ok-id.ensures _ _ plain e in
-    let q = parted c.in-ok-depth.ensures (codes "depth=" ++ decimal d) (codes "block=" ++ shown_bytes bs) (depth_word d small) p.1 in
-    c.in-err-keyed-2.ensures.1 (shown_bytes bs) q.1))
+    let p = parted c.in_ok-id.ensures _ _ plain e in
+    let q = parted c.in_ok-depth.ensures (codes "depth=" ++ decimal d) (codes "block=" ++ shown_bytes bs) (depth_word d small) p.1 in
+    c.in_err-keyed-2.ensures.1 (shown_bytes bs) q.1))
 
-pub returns-in-err-block : goal.returns-in-err-block
-returns-in-err-block c =
-    handed_on _ c.from-residual-in-err-block.result c.from-residual-in-err-block.ensures.1 c.in-err-block.ensures
+pub returns-in_err-block : goal.returns-in_err-block
+returns-in_err-block c =
+    handed_on _ c.from-residual-in_err-block.result c.from-residual-in_err-block.ensures.1 c.in_err-block.ensures
     (λ none. no_check _ (λ id d bs plain small ok e.
-    let p = parted c.in-ok-id.ensures _ _ plain e in
-    let q = parted c.in-ok-depth.ensures (codes "depth=" ++ decimal d) (codes "block=" ++ shown_bytes bs) (depth_word d small) p.1 in
-    none bs ok (unkeyed (codes "block=") _ _ (sym c.in-ok-keyed-2.ensures.text ∙ q.1))))
+    let p = parted c.in_ok-id.ensures _ _ plain e in
+    let q = parted c.in_ok-depth.ensures (codes "depth=" ++ decimal d) (codes "block=" ++ shown_bytes bs) (depth_word d small) p.1 in
+    none bs ok (unkeyed (codes "block=") _ _ (sym c.in_ok-keyed-2.ensures.text ∙ q.1))))

@@ -5,28 +5,28 @@ use Rattle.tokens.specs.Bytes.{spelled}
 use Rattle.tokens.proofs.Digits.{again, bad_pair, whole, odd}
 use Rattle.tokens.proofs.hex.hex_bytes.Goals as goal
 
-pub overflow-sub-bytes : goal.overflow-sub-bytes
-overflow-sub-bytes c = omega (arith, ap length c.loop-rest.invariant, length-append (spelled (vec_items c.loop-rest.out)) c.loop-rest.rest.now)
+pub overflow_sub-bytes : goal.overflow_sub-bytes
+overflow_sub-bytes c = omega (arith, ap length c.loop-rest.invariant, length-append (spelled (vec_items c.loop-rest.out)) c.loop-rest.rest.now)
 
-pub returns-in-err-b : goal.returns-in-err-b
-returns-in-err-b c =
+pub returns-in_err-b : goal.returns-in_err-b
+returns-in_err-b c =
     let some : 2 ≤ length c.loop-rest.rest.now = grind arith in
     let q = err_from_is_err_and c.from-residual.result c.from-residual.ensures.1 in
-    rw (q.1, q.2) (bad_pair _ _ _ _ _ _ _ c.loop-rest.invariant c.as-bytes-bytes.ensures.value some c.saturating-add-column.ensures c.in-err-b.ensures)
+    rw (q.1, q.2) (bad_pair _ _ _ _ _ _ _ c.loop-rest.invariant c.as_bytes-bytes.ensures.value some c.saturating_add-column.ensures c.in_err-b.ensures)
 
 pub loop-rest-preserved : goal.loop-rest-preserved
 loop-rest-preserved c =
     let some : 2 ≤ length c.loop-rest.rest.now = grind arith in
-    again _ _ _ _ c.in-ok-b.b c.loop-rest.invariant
-    (chosen _ _ _ _ c.push.ensures.items (ap is_ok c.in-ok-push.was))
-    some c.in-ok-b.ensures
+    again _ _ _ _ c.in_ok-b.b c.loop-rest.invariant
+    (chosen _ _ _ _ c.push.ensures.items (ap is_ok c.in_ok-push.was))
+    some c.in_ok-b.ensures
 
 pub returns-in-empty : goal.returns-in-empty
 returns-in-empty c =
     let none : length c.loop-rest.rest.now ≡ 0 = search rules in
-    sym c.as-bytes-bytes.ensures.value ∙ whole _ _ _ c.loop-rest.invariant none
+    sym c.as_bytes-bytes.ensures.value ∙ whole _ _ _ c.loop-rest.invariant none
 
-pub returns-in-default-default : goal.returns-in-default-default
-returns-in-default-default c =
+pub returns-in_default-default : goal.returns-in_default-default
+returns-in_default-default c =
     let one : length c.loop-rest.rest.now ≡ 1 = search rules in
-    odd _ _ _ _ c.loop-rest.invariant c.as-bytes-bytes.ensures.value one
+    odd _ _ _ _ c.loop-rest.invariant c.as_bytes-bytes.ensures.value one

@@ -8,7 +8,7 @@ returns c =
     let high : c.args.b / 16 < 16 = omega arith in
     let low : c.args.b % 16 < 16 = omega arith in
     two_pushed c.push-2.result _ _ _ _ _ _ _
-    (chosen _ _ _ _ c.push.ensures.bytes (ap is_ok c.in-ok-push.was))
-    (one_digit _ _ _ c.push.ensures.ascii c.digit-of.ensures high)
+    (chosen _ _ _ _ c.push.ensures.bytes (ap is_ok c.in_ok-push.was))
+    (one_digit _ _ _ c.push.ensures.ascii c.digit_of.ensures high)
     c.push-2.ensures.bytes
-    (one_digit _ _ _ c.push-2.ensures.ascii c.digit-of-2.ensures low)
+    (one_digit _ _ _ c.push-2.ensures.ascii c.digit_of-2.ensures low)

@@ -5,12 +5,12 @@ use Rattle.tokens.proofs.numbers.value_of.Goals.{else-bytes-gt1-via-then-bytes-g
 
 pub returns-then-bytes-eq48 : goal.returns-then-bytes-eq48
 returns-then-bytes-eq48 c =
-    let same = c.as-bytes-bytes.ensures.value in
+    let same = c.as_bytes-bytes.ensures.value in
     λ n _. no_zero_first _ (omega (arith, ap length same)) (sym (ap (λ l. get_or l 0 0) same) ∙ c.if-bytes-eq48.true) n
 
 pub returns-then-n-most : goal.returns-then-n-most
 returns-then-n-most c =
-    let same = c.as-bytes-bytes.ensures.value in (
+    let same = c.as_bytes-bytes.ensures.value in (
       c.if-n-most.true,
       read _ _ c.parse.ensures.value.0 _ c.requires
           (λ zero. elim c.else-bytes-gt1.branch [

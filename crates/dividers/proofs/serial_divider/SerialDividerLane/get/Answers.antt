@@ -4,5 +4,5 @@ use Rattle.dividers.proofs.serial_divider.SerialDividerLane.get.Goals as goal
 
 pub returns : goal.returns
 returns c =
-    c.byte-at.ensures
-    ∙ dual_read c.args.self.now.registers c.args.place (omega (arith, c.args.self.now.wide)) (subst (λ n. n < 256) c.byte-at.ensures c.byte-at.type-inv)
+    c.byte_at.ensures
+    ∙ dual_read c.args.self.now.registers c.args.place (omega (arith, c.args.self.now.wide)) (subst (λ n. n < 256) c.byte_at.ensures c.byte_at.type_inv)

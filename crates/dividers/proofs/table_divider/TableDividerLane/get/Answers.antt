@@ -5,5 +5,5 @@ use Rattle.dividers.proofs.table_divider.TableDividerLane.get.Goals as goal
 
 pub returns : goal.returns
 returns c =
-    c.dual-byte.ensures ∙ ap (λ n. (in_power_form n).byte) c.byte-at.ensures
+    c.dual_byte.ensures ∙ ap (λ n. (in_power_form n).byte) c.byte_at.ensures
     ∙ power_read c.args.self.now.registers c.args.place (omega (arith, c.args.self.now.wide))

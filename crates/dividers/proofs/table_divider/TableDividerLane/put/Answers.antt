@@ -5,5 +5,5 @@ use Rattle.dividers.proofs.table_divider.TableDividerLane.put.Goals as goal
 
 pub returns : goal.returns
 returns c =
-    ap power_lane (c.write.ensures ∙ ap (set c.args.self.now.registers c.args.place) c.power-byte.ensures)
+    ap power_lane (c.write.ensures ∙ ap (set c.args.self.now.registers c.args.place) c.power_byte.ensures)
     ∙ power_set c.args.self.now.registers c.args.place c.args.byte

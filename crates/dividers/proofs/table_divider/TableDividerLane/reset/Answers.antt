@@ -4,4 +4,4 @@ use Rattle.dividers.specs.PowerLane.{power_zeros}
 use Rattle.dividers.proofs.table_divider.TableDividerLane.reset.Goals as goal
 
 pub returns : goal.returns
-returns c = ap power_lane c.clear-all.ensures ∙ power_zeros
+returns c = ap power_lane c.clear_all.ensures ∙ power_zeros

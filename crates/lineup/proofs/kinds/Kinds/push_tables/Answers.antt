@@ -10,9 +10,9 @@ unfolding listed
 loop-i-init c = let s = c.args.self.now in eight_same (listed s) (omega (arith, s.few, length-take s.count s.kinds))
 
 pub loop-i-preserved : goal.loop-i-preserved
-loop-i-preserved c = c.push.ensures ∙ eight_again (listed c.args.self.now) (listed c.loop-i.self) c.loop-i.-i Table c.loop-i.invariant
+loop-i-preserved c = c.push.ensures ∙ eight_again (listed c.args.self.now) (listed c.loop-i.self) c.loop-i._i Table c.loop-i.invariant
 
 pub returns : goal.returns
 returns c =
-    let e : c.loop-i.-i ≡ c.args.n = omega arith in
+    let e : c.loop-i._i ≡ c.args.n = omega arith in
     c.loop-i.invariant ∙ ap (λ k. first_eight (listed c.args.self.now ++ replicate k Table)) e

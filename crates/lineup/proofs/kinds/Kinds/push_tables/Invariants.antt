@@ -4,4 +4,4 @@ use Rattle.lineup.specs.Kinds.{first_eight, listed}
 use Rattle.lineup.proofs.kinds.Kinds.push_tables.Given as goal
 
 abbrev pub invariant-loop-i : goal.invariant-loop-i
-invariant-loop-i l = listed l.self ≡ first_eight (listed l.initial.self ++ replicate l.-i Table)
+invariant-loop-i l = listed l.self ≡ first_eight (listed l.initial.self ++ replicate l._i Table)
