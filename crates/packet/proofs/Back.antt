@@ -58,6 +58,6 @@ counted_placed n p (x ∷ ps) =
 
 pub walks_back : WalksBack
 walks_back message ps c =
-    let e : items message ≡ placed 0 ps = ap items c.is ∙ items_symbols 0 ps c.fill c.well-formed in
+    let e : items message ≡ placed 0 ps = ap items c.is ∙ items_symbols 0 ps c.fill c.well_formed in
     let n : 0 + length ps ≡ length ps = omega arith in
     record { packets = e; count = ap (counted 0) e ∙ counted_placed 0 0 ps ∙ ap Ok n }

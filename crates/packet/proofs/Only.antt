@@ -82,7 +82,7 @@ walked_packet : (n m : ℕ) (bs rest : List ℕ) (x : Packet) → WellFormed x �
 walked_packet n m bs rest x well e (ps, c, count) =
     let whole : bs ≡ symbols (x ∷ ps) ++ replicate c.fill 0 =
     e ∙ ap (λ ys. packet_symbols x ++ ys) c.is ∙ sym (append_assoc (packet_symbols x) (symbols ps) (replicate c.fill 0)) in
-    (x ∷ ps, record { well_formed = (well, c.well-formed); fill = c.fill; is = whole }, omega (arith, count))
+    (x ∷ ps, record { well_formed = (well, c.well_formed); fill = c.fill; is = whole }, omega (arith, count))
 
 -- By what stands at the front; what is behind a packet is shorter.
 walked_from :

@@ -10,7 +10,7 @@ pub invariant_of-result : goal.invariant_of-result
 invariant_of-result c =
     let a = c.args.element.bits in
     let found = exponent_found (eqb a 0) a c.in-Some.number c.in-Some.ensures in
-    (subst (λ n. n < 255) (sym found.1) (exponent_below a), tt)
+    record { below = subst (λ n. n < 255) (sym found.1) (exponent_below a) }
 
 pub returns-in-Some : goal.returns-in-Some
 returns-in-Some c =

@@ -5,7 +5,7 @@ use Rattle.arrivals.proofs.NoArrivals.{no_words, no_verb}
 use Rattle.arrivals.proofs.read.read_arrival.Goals as goal
 
 pub returns-in_err-verb : goal.returns-in_err-verb
-returns-in_err-verb c = refused _ _ c.from-residual.ensures.0 (no_words _ c.in_err-verb.ensures.1)
+returns-in_err-verb c = refused _ _ c.from_residual.ensures.0 (no_words _ c.in_err-verb.ensures.1)
 
 pub returns-in_default : goal.returns-in_default
 returns-in_default c =

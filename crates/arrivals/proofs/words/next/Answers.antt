@@ -5,5 +5,5 @@ use Rattle.arrivals.proofs.words.next.Goals as goal
 
 pub returns-in_err-message : goal.returns-in_err-message
 returns-in_err-message c =
-    handed_on _ c.from-residual-in_err-message.result c.from-residual-in_err-message.ensures.1 c.in_err-message.ensures
+    handed_on _ c.from_residual-in_err-message.result c.from_residual-in_err-message.ensures.1 c.in_err-message.ensures
     (λ none. no_next _ (λ id message plain ok e. none message ok (parted c.in_ok-id.ensures _ _ plain e).1))

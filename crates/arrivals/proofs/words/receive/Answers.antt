@@ -15,20 +15,20 @@ size = lacks_told (codes "msglen=") refl
 
 pub returns-in_err-depth : goal.returns-in_err-depth
 returns-in_err-depth c =
-    refused _ _ c.from-residual-in_err-depth.ensures.0
+    refused _ _ c.from_residual-in_err-depth.ensures.0
     (no_receive _ (λ id d n block plain low small ok e.
     c.in_err-depth.ensures d _ (omega arith) (parted c.in_ok-id.ensures _ _ plain e).1))
 
 pub returns-in_err-length : goal.returns-in_err-length
 returns-in_err-length c =
-    refused _ _ c.from-residual-in_err-length.ensures.0
+    refused _ _ c.from_residual-in_err-length.ensures.0
     (no_receive _ (λ id d n block plain low small ok e.
     let p = (parted c.in_ok-id.ensures _ _ plain e).1 in
     c.in_err-length.ensures n _ small (behind_setting (codes "depth=") _ depth (omega arith) c.in_ok-depth.ensures (omega arith) p)))
 
 pub returns-in_err-keyed : goal.returns-in_err-keyed
 returns-in_err-keyed c =
-    refused _ _ c.from-residual-in_err-keyed.ensures.0
+    refused _ _ c.from_residual-in_err-keyed.ensures.0
     (no_receive _ (λ id d n block plain low small ok e.
     let p = (parted c.in_ok-id.ensures _ _ plain e).1 in
     let q = behind_setting (codes "depth=") _ depth (omega arith) c.in_ok-depth.ensures (omega arith) p in
@@ -36,7 +36,7 @@ returns-in_err-keyed c =
 
 pub returns-in_err-block : goal.returns-in_err-block
 returns-in_err-block c =
-    handed_on _ c.from-residual-in_err-block.result c.from-residual-in_err-block.ensures.1 c.in_err-block.ensures
+    handed_on _ c.from_residual-in_err-block.result c.from_residual-in_err-block.ensures.1 c.in_err-block.ensures
     (λ none. no_receive _ (λ id d n block plain low small ok e.
     let p = (parted c.in_ok-id.ensures _ _ plain e).1 in
     let q = behind_setting (codes "depth=") _ depth (omega arith) c.in_ok-depth.ensures (omega arith) p in

@@ -7,17 +7,17 @@ use Rattle.arrivals.proofs.words.setting.Goals as goal
 
 pub returns-in_err-first : goal.returns-in_err-first
 returns-in_err-first c =
-    MatchResult-from_err _ _ _ c.from-residual.ensures.0
+    MatchResult-from_err _ _ _ c.from_residual.ensures.0
     (λ _. λ n rest small e. c.in_err-first.ensures.1 _ rest (plain_setting _ _ c.requires (omega arith) n small) e)
 
 pub returns-in_err-keyed : goal.returns-in_err-keyed
 returns-in_err-keyed c =
-    MatchResult-from_err _ _ _ c.from-residual-in_err-keyed.ensures.0
+    MatchResult-from_err _ _ _ c.from_residual-in_err-keyed.ensures.0
     (λ _. λ n rest small e. c.in_err-keyed.ensures.1 (decimal n) (parted c.in_ok-first.ensures _ rest (plain_setting _ _ c.requires (omega arith) n small) e).0)
 
 pub returns-in_err-value : goal.returns-in_err-value
 returns-in_err-value c =
-    MatchResult-from_err _ _ _ c.from-residual-in_err-value.ensures.0
+    MatchResult-from_err _ _ _ c.from_residual-in_err-value.ensures.0
     (λ _. λ n rest small e.
     let word = (parted c.in_ok-first.ensures _ rest (plain_setting _ _ c.requires (omega arith) n small) e).0 in
     no_number _ _ _ _ c.in_err-value.ensures n small (omega arith) (behind_key c.in_ok-keyed.ensures (decimal n) word))

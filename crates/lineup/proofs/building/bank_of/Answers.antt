@@ -7,7 +7,7 @@ use Rattle.lineup.proofs.Assembled.{lanes_planned, counted_divider, holder_told,
 use Rattle.lineup.proofs.building.bank_of.Goals as goal
 
 pub returns-in_err-rest : goal.returns-in_err-rest
-returns-in_err-rest c = rw c.from-residual.ensures (whole_none 64 c.args.text.now c.in_err-rest.ensures)
+returns-in_err-rest c = rw c.from_residual.ensures (whole_none 64 c.args.text.now c.in_err-rest.ensures)
 
 pub returns-then-not-is_empty : goal.returns-then-not-is_empty
 returns-then-not-is_empty c =

@@ -5,34 +5,34 @@ use Rattle.lineup.proofs.Texts.{no_text, no_first, holder_unopened, holder_empty
 use Rattle.lineup.proofs.reading.+read_part.Goals as goal
 
 pub returns-in_err-first : goal.returns-in_err-first
-returns-in_err-first t c = rw c.from-residual.ensures (no_text c.args.depth c.args.text.now c.in_err-first.ensures)
+returns-in_err-first t c = rw c.from_residual.ensures (no_text c.args.depth c.args.text.now c.in_err-first.ensures)
 
 pub returns-in_err-inner : goal.returns-in_err-inner
 returns-in_err-inner t c =
     let e = c.in_ok-first.ensures ∙ ap (λ b. b ∷ c.in_ok-first.rest.now) c.in-104.is in
-    rw c.from-residual-in_err-inner.ensures (holder_unopened c.args.depth c.args.text.now _ e c.in_err-inner.ensures)
+    rw c.from_residual-in_err-inner.ensures (holder_unopened c.args.depth c.args.text.now _ e c.in_err-inner.ensures)
 
 pub returns-in_err-rest : goal.returns-in_err-rest
 returns-in_err-rest t c =
     let e = c.in_ok-first.ensures ∙ ap (λ b. b ∷ c.in_ok-first.rest.now) c.in-104.is in
-    rw c.from-residual-in_err-rest.ensures (holder_empty c.args.depth c.args.text.now _ e _ c.in_ok-inner.ensures c.in_err-rest.ensures)
+    rw c.from_residual-in_err-rest.ensures (holder_empty c.args.depth c.args.text.now _ e _ c.in_ok-inner.ensures c.in_err-rest.ensures)
 
 pub returns-in_err-rest-2 : goal.returns-in_err-rest-2
 returns-in_err-rest-2 t c =
     let e = c.in_ok-first.ensures ∙ ap (λ b. b ∷ c.in_ok-first.rest.now) c.in-40.is in
-    rw c.from-residual-in_err-rest-2.ensures (pair_empty c.args.depth c.args.text.now _ e c.in_err-rest-2.ensures)
+    rw c.from_residual-in_err-rest-2.ensures (pair_empty c.args.depth c.args.text.now _ e c.in_err-rest-2.ensures)
 
 pub returns-in_err-rest-3 : goal.returns-in_err-rest-3
 returns-in_err-rest-3 t c =
     let e = c.in_ok-first.ensures ∙ ap (λ b. b ∷ c.in_ok-first.rest.now) c.in-40.is in
     let left = c.in_ok-rest-2.ensures in
-    rw c.from-residual-in_err-rest-3.ensures (pair_unsplit c.args.depth c.args.text.now _ e left.plan _ left.begins c.in_err-rest-3.ensures)
+    rw c.from_residual-in_err-rest-3.ensures (pair_unsplit c.args.depth c.args.text.now _ e left.plan _ left.begins c.in_err-rest-3.ensures)
 
 pub returns-in_err-rest-4 : goal.returns-in_err-rest-4
 returns-in_err-rest-4 t c =
     let e = c.in_ok-first.ensures ∙ ap (λ b. b ∷ c.in_ok-first.rest.now) c.in-40.is in
     let left = c.in_ok-rest-2.ensures in
-    rw c.from-residual-in_err-rest-4.ensures
+    rw c.from_residual-in_err-rest-4.ensures
     (pair_half c.args.depth c.args.text.now _ e left.plan _ left.begins _ c.in_ok-rest-3.ensures c.in_err-rest-4.ensures)
 
 pub returns-in-84 : goal.returns-in-84

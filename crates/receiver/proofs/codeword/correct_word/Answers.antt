@@ -20,7 +20,7 @@ returns c =
 
 pub returns-in_err-wrong : goal.returns-in_err-wrong
 returns-in_err-wrong c =
-    let p = err_from_is_err_and c.from-residual.result c.from-residual.ensures.1 in
+    let p = err_from_is_err_and c.from_residual.result c.from_residual.ensures.1 in
     let told = corrected_word {E = NoCodeword} c.args.bytes.now c.power_word-word.result c.correct.new.word c.remainder_of-remainder.result (Err c.in_err-wrong.field-0.0)
     c.power_word-word.ensures c.remainder_of-remainder.ensures (c.in_err-wrong.ensures refl) in
     rw p.1 (refl, told.1)

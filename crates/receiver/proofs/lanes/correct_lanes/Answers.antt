@@ -8,7 +8,7 @@ loop-lane-init c = (read_none c.args.depth.lanes c.args.block.now c.args.message
 
 pub returns-in_err-wrong : goal.returns-in_err-wrong
 returns-in_err-wrong c =
-    let p = err_from_is_err_and c.from-residual.result c.from-residual.ensures.1 in
+    let p = err_from_is_err_and c.from_residual.result c.from_residual.ensures.1 in
     let told = c.in_err-wrong.ensures in
     rw (p.1, p.2, told.0)
     (read_lost c.args.depth.lanes c.args.block.now c.loop-lane.lane c.loop-lane.wrong c.loop-lane.message c.loop-lane-test.true c.loop-lane.invariant.0 told.1)

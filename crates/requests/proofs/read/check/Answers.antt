@@ -12,14 +12,14 @@ depth_word d small = plain_key (codes "depth=") (decimal d) (lacks_told (codes "
 
 pub returns-in_err-depth : goal.returns-in_err-depth
 returns-in_err-depth c =
-    refused _ _ c.from-residual-in_err-depth.ensures.0
+    refused _ _ c.from_residual-in_err-depth.ensures.0
     (no_check _ (λ id d bs plain small ok e.
     let p = parted c.in_ok-id.ensures _ _ plain e in
     c.in_err-depth.ensures.1 (codes "depth=" ++ decimal d) (codes "block=" ++ shown_bytes bs) (depth_word d small) p.1))
 
 pub returns-in_err-keyed : goal.returns-in_err-keyed
 returns-in_err-keyed c =
-    refused _ _ c.from-residual-in_err-keyed.ensures.0
+    refused _ _ c.from_residual-in_err-keyed.ensures.0
     (no_check _ (λ id d bs plain small ok e.
     let p = parted c.in_ok-id.ensures _ _ plain e in
     let q = parted c.in_ok-depth.ensures (codes "depth=" ++ decimal d) (codes "block=" ++ shown_bytes bs) (depth_word d small) p.1 in
@@ -27,7 +27,7 @@ returns-in_err-keyed c =
 
 pub returns-in_err-depth-2 : goal.returns-in_err-depth-2
 returns-in_err-depth-2 c =
-    refused _ _ c.from-residual-in_err-depth-2.ensures.0
+    refused _ _ c.from_residual-in_err-depth-2.ensures.0
     (no_check _ (λ id d bs plain small ok e.
     let p = parted c.in_ok-id.ensures _ _ plain e in
     let q = parted c.in_ok-depth.ensures (codes "depth=" ++ decimal d) (codes "block=" ++ shown_bytes bs) (depth_word d small) p.1 in
@@ -35,7 +35,7 @@ returns-in_err-depth-2 c =
 
 pub returns-in_err-keyed-2 : goal.returns-in_err-keyed-2
 returns-in_err-keyed-2 c =
-    refused _ _ c.from-residual-in_err-keyed-2.ensures.0
+    refused _ _ c.from_residual-in_err-keyed-2.ensures.0
     (no_check _ (λ id d bs plain small ok e.
     let p = parted c.in_ok-id.ensures _ _ plain e in
     let q = parted c.in_ok-depth.ensures (codes "depth=" ++ decimal d) (codes "block=" ++ shown_bytes bs) (depth_word d small) p.1 in
@@ -43,7 +43,7 @@ returns-in_err-keyed-2 c =
 
 pub returns-in_err-block : goal.returns-in_err-block
 returns-in_err-block c =
-    handed_on _ c.from-residual-in_err-block.result c.from-residual-in_err-block.ensures.1 c.in_err-block.ensures
+    handed_on _ c.from_residual-in_err-block.result c.from_residual-in_err-block.ensures.1 c.in_err-block.ensures
     (λ none. no_check _ (λ id d bs plain small ok e.
     let p = parted c.in_ok-id.ensures _ _ plain e in
     let q = parted c.in_ok-depth.ensures (codes "depth=" ++ decimal d) (codes "block=" ++ shown_bytes bs) (depth_word d small) p.1 in

@@ -5,24 +5,24 @@ use Rattle.requests.proofs.NoRequests.{no_kind, no_question}
 use Rattle.requests.proofs.read.question_at.Goals as goal
 
 pub returns-in_err-kind : goal.returns-in_err-kind
-returns-in_err-kind c = refused _ _ c.from-residual.ensures.0 (no_kind _ _ c.requires c.in_err-kind.ensures.1)
+returns-in_err-kind c = refused _ _ c.from_residual.ensures.0 (no_kind _ _ c.requires c.in_err-kind.ensures.1)
 
 pub returns-in_err-question : goal.returns-in_err-question
 returns-in_err-question c =
     let cut = c.in_ok-kind.ensures in
-    handed_on _ c.from-residual-in_err-question.result c.from-residual-in_err-question.ensures.1 c.in_err-question.ensures
+    handed_on _ c.from_residual-in_err-question.result c.from_residual-in_err-question.ensures.1 c.in_err-question.ensures
     (λ none. no_question _ _ c.requires c.in_ok-kind.kind.text.now _ cut.text cut.plain.1 (λ _. none) (λ d. absurd (omega (arith, begins (sym d ∙ c.in-p.is)))) (λ e. absurd (omega (arith, begins (sym e ∙ c.in-p.is)))))
 
 pub returns-in_err-question-2 : goal.returns-in_err-question-2
 returns-in_err-question-2 c =
     let cut = c.in_ok-kind.ensures in
-    handed_on _ c.from-residual-in_err-question-2.result c.from-residual-in_err-question-2.ensures.1 c.in_err-question-2.ensures
+    handed_on _ c.from_residual-in_err-question-2.result c.from_residual-in_err-question-2.ensures.1 c.in_err-question-2.ensures
     (λ none. no_question _ _ c.requires c.in_ok-kind.kind.text.now _ cut.text cut.plain.1 (λ p. absurd (omega (arith, begins (sym p ∙ c.in-d.is)))) (λ _. none) (λ e. absurd (omega (arith, begins (sym e ∙ c.in-d.is)))))
 
 pub returns-in_err-question-3 : goal.returns-in_err-question-3
 returns-in_err-question-3 c =
     let cut = c.in_ok-kind.ensures in
-    handed_on _ c.from-residual-in_err-question-3.result c.from-residual-in_err-question-3.ensures.1 c.in_err-question-3.ensures
+    handed_on _ c.from_residual-in_err-question-3.result c.from_residual-in_err-question-3.ensures.1 c.in_err-question-3.ensures
     (λ none. no_question _ _ c.requires c.in_ok-kind.kind.text.now _ cut.text cut.plain.1 (λ p. absurd (omega (arith, begins (sym p ∙ c.in-e.is)))) (λ d. absurd (omega (arith, begins (sym d ∙ c.in-e.is)))) (λ _. none))
 
 pub returns-in_default : goal.returns-in_default

@@ -7,7 +7,7 @@ use Rattle.session.proofs.calling.open_bank.Goals as goal
 
 pub returns-in_err-bank_line : goal.returns-in_err-bank_line
 returns-in_err-bank_line c = record {
-  outcome = IfOk-from_err c.from-residual.result _ c.from-residual.ensures.0;
+  outcome = IfOk-from_err c.from_residual.result _ c.from_residual.ensures.0;
   after = after_opening c.args.plan.now (state_of c.args.session.now) c.in-Some.built c.in-Some.ensures;
 }
 

@@ -10,7 +10,7 @@ pub returns-in_err-item : goal.returns-in_err-item
 returns-in_err-item g c =
     let no_dash : c.args.piece.text.now ≡ 45 ∷ [] → ⊥ = search rules in
     let cut = MatchOption-at_some _ _ _ c.in-Some.is (split_parts 44 c.loop-first.text.now _ c.split_once.ensures.cases (omega arith)) in
-    MatchResult-from_err _ _ _ c.from-residual.ensures.0
+    MatchResult-from_err _ _ _ c.from_residual.ensures.0
     (λ _. inr (refused_first g.S.Spelled.written g.met.S.Spelled.plain _ _ _ _ _ c.loop-first.invariant.1 no_dash cut.0 cut.1 c.in_err-item.ensures))
 
 pub loop-first-preserved : goal.loop-first-preserved
@@ -25,7 +25,7 @@ pub returns-in_err-last : goal.returns-in_err-last
 returns-in_err-last g c =
     let no_dash : c.args.piece.text.now ≡ 45 ∷ [] → ⊥ = search rules in
     let lacks = MatchOption-at_none _ _ c.in_default.is (split_parts 44 c.loop-first.text.now _ c.split_once.ensures.cases (omega arith)) in
-    MatchResult-from_err _ _ _ c.from-residual-in_err-last.ensures.0
+    MatchResult-from_err _ _ _ c.from_residual-in_err-last.ensures.0
     (λ _. inr (refused_last g.S.Spelled.written g.met.S.Spelled.plain _ _ _ c.loop-first.invariant.1 no_dash lacks c.in_err-last.ensures))
 
 pub returns : goal.returns

@@ -11,7 +11,7 @@ overflow_sub-bytes c = omega (arith, ap length c.loop-rest.invariant, length-app
 pub returns-in_err-b : goal.returns-in_err-b
 returns-in_err-b c =
     let some : 2 ≤ length c.loop-rest.rest.now = grind arith in
-    let q = err_from_is_err_and c.from-residual.result c.from-residual.ensures.1 in
+    let q = err_from_is_err_and c.from_residual.result c.from_residual.ensures.1 in
     rw (q.1, q.2) (bad_pair _ _ _ _ _ _ _ c.loop-rest.invariant c.as_bytes-bytes.ensures.value some c.saturating_add-column.ensures c.in_err-b.ensures)
 
 pub loop-rest-preserved : goal.loop-rest-preserved
@@ -26,7 +26,7 @@ returns-in-empty c =
     let none : length c.loop-rest.rest.now ≡ 0 = search rules in
     sym c.as_bytes-bytes.ensures.value ∙ whole _ _ _ c.loop-rest.invariant none
 
-pub returns-in_default-default : goal.returns-in_default-default
-returns-in_default-default c =
+pub returns-in_default-rest : goal.returns-in_default-rest
+returns-in_default-rest c =
     let one : length c.loop-rest.rest.now ≡ 1 = search rules in
     odd _ _ _ _ c.loop-rest.invariant c.as_bytes-bytes.ensures.value one
