@@ -38,7 +38,8 @@ fn exponent(piece: Piece<'_>) -> Result<Exponent, Fault>
 fn write_number(text: &mut String, number: u8) -> Result<(), AllocError>
     ensures { OnOk result (string_bytes text.new ≡ string_bytes text.old ++ decimal number) }
 {
-    let digits = format!(in text.allocator(); "{number}")?;
+    let heap = *text.allocator();
+    let digits = format!(in heap; "{number}")?;
     text.push_str(digits.as_str())
 }
 

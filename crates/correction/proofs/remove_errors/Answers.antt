@@ -31,7 +31,7 @@ repair-requires g c =
                       c.requires.above,
                       (
                         refl,
-                        (omega (arith, long, c.requires.few), (steps, (c.requires.base_is, c.requires.lead-is))),
+                        (omega (arith, long, c.requires.few), (steps, (c.requires.base_is, c.requires.lead_is))),
                       ),
                     ),
                   ),

@@ -12,4 +12,4 @@ returns-in_default c =
     let cut = c.in_ok-verb.ensures in
     inr (subst NoCall (sym cut.text)
     (no_verb c.in_ok-verb.verb.text.now c.in_ok-verb.rest.text.now cut.plain
-    (c.in_default.not-bank, c.in_default.not-take, c.in_default.not-read, c.in_default.not_set, c.in_default.not-regs)))
+    (c.in_default.not-bank, c.in_default.not-take, c.in_default.not-read, c.in_default.not-set, c.in_default.not-regs)))

@@ -44,7 +44,7 @@ loop-i-preserved g c = (
   next_place (record { ops = g.F.Field.ops; laws = g.met.F.Field.laws }) telemetry c.args.poly.now c.args.word.now c.args.sequence.now c.args.left.now
       c.loop-i.word c.loop-i.left c.loop-i.terms c.loop-i.place.x c.loop-i.place.scale c.loop-i.i c.loop-i.invariant.0 c.next_sum-value.result c.next_sum-value.ensures.sum
       c.mend_place.new.word c.mend_place.new.left (omega (arith, c.loop-i.invariant.1)) c.loop-i.invariant.2 c.args.steps.now c.next_sum-value.new.terms c.args.gamma c.args.lead c.next_place-place.result.x c.next_place-place.result.scale
-      c.args.degree c.requires.above c.requires.steps-room c.requires.powers c.requires.base c.requires.first c.next_sum-value.ensures.terms c.next_place-place.ensures.x c.next_place-place.ensures.scale c.if-not-mend_place.ensures.mended,
+      c.args.degree c.requires.above c.requires.steps_room c.requires.powers c.requires.base c.requires.first c.next_sum-value.ensures.terms c.next_place-place.ensures.x c.next_place-place.ensures.scale c.if-not-mend_place.ensures.mended,
   c.if-not-mend_place.ensures.long,
   c.if-not-mend_place.ensures.left_long,
   c.next_sum-value.ensures.long,
