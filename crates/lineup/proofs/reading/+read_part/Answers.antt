@@ -7,33 +7,33 @@ use Rattle.lineup.proofs.reading.+read_part.Goals as goal
 pub returns-in_err-first : goal.returns-in_err-first
 returns-in_err-first t c = rw c.from_residual.ensures (no_text c.args.depth c.args.text.now c.in_err-first.ensures)
 
-pub returns-in_err-inner : goal.returns-in_err-inner
-returns-in_err-inner t c =
+pub returns-in_err-inner-in-104 : goal.returns-in_err-inner-in-104
+returns-in_err-inner-in-104 t c =
     let e = c.in_ok-first.ensures ∙ ap (λ b. b ∷ c.in_ok-first.rest.now) c.in-104.is in
-    rw c.from_residual-in_err-inner.ensures (holder_unopened c.args.depth c.args.text.now _ e c.in_err-inner.ensures)
+    rw c.from_residual-in_err-inner-in-104.ensures (holder_unopened c.args.depth c.args.text.now _ e c.in_err-inner-in-104.ensures)
 
-pub returns-in_err-rest : goal.returns-in_err-rest
-returns-in_err-rest t c =
+pub returns-in_err-rest-in-104 : goal.returns-in_err-rest-in-104
+returns-in_err-rest-in-104 t c =
     let e = c.in_ok-first.ensures ∙ ap (λ b. b ∷ c.in_ok-first.rest.now) c.in-104.is in
-    rw c.from_residual-in_err-rest.ensures (holder_empty c.args.depth c.args.text.now _ e _ c.in_ok-inner.ensures c.in_err-rest.ensures)
+    rw c.from_residual-in_err-rest-in-104.ensures (holder_empty c.args.depth c.args.text.now _ e _ c.in_ok-inner-in-104.ensures c.in_err-rest-in-104.ensures)
 
-pub returns-in_err-rest-2 : goal.returns-in_err-rest-2
-returns-in_err-rest-2 t c =
+pub returns-in_err-rest-in-40 : goal.returns-in_err-rest-in-40
+returns-in_err-rest-in-40 t c =
     let e = c.in_ok-first.ensures ∙ ap (λ b. b ∷ c.in_ok-first.rest.now) c.in-40.is in
-    rw c.from_residual-in_err-rest-2.ensures (pair_empty c.args.depth c.args.text.now _ e c.in_err-rest-2.ensures)
+    rw c.from_residual-in_err-rest-in-40.ensures (pair_empty c.args.depth c.args.text.now _ e c.in_err-rest-in-40.ensures)
 
-pub returns-in_err-rest-3 : goal.returns-in_err-rest-3
-returns-in_err-rest-3 t c =
+pub returns-in_err-rest-in-40-2 : goal.returns-in_err-rest-in-40-2
+returns-in_err-rest-in-40-2 t c =
     let e = c.in_ok-first.ensures ∙ ap (λ b. b ∷ c.in_ok-first.rest.now) c.in-40.is in
-    let left = c.in_ok-rest-2.ensures in
-    rw c.from_residual-in_err-rest-3.ensures (pair_unsplit c.args.depth c.args.text.now _ e left.plan _ left.begins c.in_err-rest-3.ensures)
+    let left = c.in_ok-rest-in-40.ensures in
+    rw c.from_residual-in_err-rest-in-40-2.ensures (pair_unsplit c.args.depth c.args.text.now _ e left.plan _ left.begins c.in_err-rest-in-40-2.ensures)
 
-pub returns-in_err-rest-4 : goal.returns-in_err-rest-4
-returns-in_err-rest-4 t c =
+pub returns-in_err-rest-in-40-3 : goal.returns-in_err-rest-in-40-3
+returns-in_err-rest-in-40-3 t c =
     let e = c.in_ok-first.ensures ∙ ap (λ b. b ∷ c.in_ok-first.rest.now) c.in-40.is in
-    let left = c.in_ok-rest-2.ensures in
-    rw c.from_residual-in_err-rest-4.ensures
-    (pair_half c.args.depth c.args.text.now _ e left.plan _ left.begins _ c.in_ok-rest-3.ensures c.in_err-rest-4.ensures)
+    let left = c.in_ok-rest-in-40.ensures in
+    rw c.from_residual-in_err-rest-in-40-3.ensures
+    (pair_half c.args.depth c.args.text.now _ e left.plan _ left.begins _ c.in_ok-rest-in-40-2.ensures c.in_err-rest-in-40-3.ensures)
 
 pub returns-in-84 : goal.returns-in-84
 unfolding dividers_of
@@ -53,21 +53,21 @@ returns-in-50-to-56 t c =
     listed_tables c.args.depth c.args.text.now _ c.args.kinds.now c.push_tables.new.self c.in_ok-first.first
     c.in_ok-first.ensures (search rules) (search rules) c.push_tables.ensures
 
-pub returns-in_ok-rest : goal.returns-in_ok-rest
-returns-in_ok-rest t c =
+pub returns-in_ok-rest-in-104 : goal.returns-in_ok-rest-in-104
+returns-in_ok-rest-in-104 t c =
     let e = c.in_ok-first.ensures ∙ ap (λ b. b ∷ c.in_ok-first.rest.now) c.in-104.is in
-    let inner = c.in_ok-inner.ensures in
-    let read = c.in_ok-rest.ensures in
+    let inner = c.in_ok-inner-in-104.ensures in
+    let read = c.in_ok-rest-in-104.ensures in
     cases_both c.after-in-104.result c.after-in-104.ensures
     (holder_unclosed c.args.depth c.args.text.now _ e _ inner read.plan _ read.begins)
     (λ rest closed. listed_holder c.args.depth c.args.text.now rest.now c.args.kinds.now c.read_part.new.kinds _ _ _ c.if-depth-gt0.true e inner read closed)
 
-pub returns-in_ok-rest-4 : goal.returns-in_ok-rest-4
-returns-in_ok-rest-4 t c =
+pub returns-in_ok-rest-in-40-3 : goal.returns-in_ok-rest-in-40-3
+returns-in_ok-rest-in-40-3 t c =
     let e = c.in_ok-first.ensures ∙ ap (λ b. b ∷ c.in_ok-first.rest.now) c.in-40.is in
-    let left = c.in_ok-rest-2.ensures in
-    let comma = c.in_ok-rest-3.ensures in
-    let right = c.in_ok-rest-4.ensures in
+    let left = c.in_ok-rest-in-40.ensures in
+    let comma = c.in_ok-rest-in-40-2.ensures in
+    let right = c.in_ok-rest-in-40-3.ensures in
     cases_both c.after-in-40-2.result c.after-in-40-2.ensures
     (pair_unclosed c.args.depth c.args.text.now _ e left.plan _ left.begins _ comma right.plan _ right.begins)
     (λ rest closed. listed_pair c.args.depth c.args.text.now rest.now c.args.kinds.now c.read_part-in-40-2.new.kinds _ _ _ _ c.read_part-in-40.new.kinds
