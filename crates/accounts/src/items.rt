@@ -24,7 +24,8 @@ fn write_packet(
 ) -> Result<(), AllocError>
     ensures { OnOk result (string_bytes text.new ≡ string_bytes text.old ++ (32 ∷ shown_packet place feed label.now body.now)) }
 {
-    let first = front(text.allocator(), place, feed)?;
+    let heap = *text.allocator();
+    let first = front(heap, place, feed)?;
     text.push_str(first.as_str())?;
     write_bytes(text, label)?;
     text.push_str(":")?;
@@ -36,7 +37,8 @@ fn write_packet(
 fn write_end(text: &mut String, place: usize) -> Result<(), AllocError>
     ensures { OnOk result (string_bytes text.new ≡ string_bytes text.old ++ (32 ∷ shown_end place)) }
 {
-    let last = format!(in text.allocator(); " END@{place}")?;
+    let heap = *text.allocator();
+    let last = format!(in heap; " END@{place}")?;
     text.push_str(last.as_str())
 }
 
@@ -46,7 +48,8 @@ fn write_fault(text: &mut String, fault: PacketFault) -> Result<(), AllocError>
 {
     let number = fault.number();
     let place = fault.place();
-    let last = format!(in text.allocator(); " F{number}@{place}")?;
+    let heap = *text.allocator();
+    let last = format!(in heap; " F{number}@{place}")?;
     text.push_str(last.as_str())
 }
 

@@ -111,7 +111,7 @@ fn call_closed(session: &mut Session, heap: Global, call: Call) -> Result<Outcom
 impl Session {
     /// A session in which no bank is open.
     pub fn new() -> Session
-        ensures { (state_of result).is-open ≡ false }
+        ensures { (state_of result).is_open ≡ false }
     {
         Session {
             built: bank_of(b"T").unwrap(),

@@ -12,5 +12,5 @@ loop-feed-preserved c =
     let x : Packet = record { feed = c.in-Ok-Packet.feed; label = c.in-Ok-Packet.label.now; body = c.in-Ok-Packet.data.now } in
     let is : told c.next.result ≡ packet x q = search rules in (
       answered.over ∙ inv.0,
-      packet_written _ q _ _ _ _ _ _ x _ inv.0 is answered.answer answered.after inv.1 c.in_ok-write_packet.ensures,
+      packet_written _ q _ _ _ _ _ _ x _ inv.0 is answered.answer answered.after inv.1 c.in_ok-write_packet-in-Ok-Packet.ensures,
     )

@@ -7,22 +7,22 @@ use Rattle.requests.proofs.read.question_at.Goals as goal
 pub returns-in_err-kind : goal.returns-in_err-kind
 returns-in_err-kind c = refused _ _ c.from_residual.ensures.0 (no_kind _ _ c.requires c.in_err-kind.ensures.1)
 
-pub returns-in_err-question : goal.returns-in_err-question
-returns-in_err-question c =
+pub returns-in_err-question-in-p : goal.returns-in_err-question-in-p
+returns-in_err-question-in-p c =
     let cut = c.in_ok-kind.ensures in
-    handed_on _ c.from_residual-in_err-question.result c.from_residual-in_err-question.ensures.1 c.in_err-question.ensures
+    handed_on _ c.from_residual-in_err-question-in-p.result c.from_residual-in_err-question-in-p.ensures.1 c.in_err-question-in-p.ensures
     (λ none. no_question _ _ c.requires c.in_ok-kind.kind.text.now _ cut.text cut.plain.1 (λ _. none) (λ d. absurd (omega (arith, begins (sym d ∙ c.in-p.is)))) (λ e. absurd (omega (arith, begins (sym e ∙ c.in-p.is)))))
 
-pub returns-in_err-question-2 : goal.returns-in_err-question-2
-returns-in_err-question-2 c =
+pub returns-in_err-question-in-d : goal.returns-in_err-question-in-d
+returns-in_err-question-in-d c =
     let cut = c.in_ok-kind.ensures in
-    handed_on _ c.from_residual-in_err-question-2.result c.from_residual-in_err-question-2.ensures.1 c.in_err-question-2.ensures
+    handed_on _ c.from_residual-in_err-question-in-d.result c.from_residual-in_err-question-in-d.ensures.1 c.in_err-question-in-d.ensures
     (λ none. no_question _ _ c.requires c.in_ok-kind.kind.text.now _ cut.text cut.plain.1 (λ p. absurd (omega (arith, begins (sym p ∙ c.in-d.is)))) (λ _. none) (λ e. absurd (omega (arith, begins (sym e ∙ c.in-d.is)))))
 
-pub returns-in_err-question-3 : goal.returns-in_err-question-3
-returns-in_err-question-3 c =
+pub returns-in_err-question-in-e : goal.returns-in_err-question-in-e
+returns-in_err-question-in-e c =
     let cut = c.in_ok-kind.ensures in
-    handed_on _ c.from_residual-in_err-question-3.result c.from_residual-in_err-question-3.ensures.1 c.in_err-question-3.ensures
+    handed_on _ c.from_residual-in_err-question-in-e.result c.from_residual-in_err-question-in-e.ensures.1 c.in_err-question-in-e.ensures
     (λ none. no_question _ _ c.requires c.in_ok-kind.kind.text.now _ cut.text cut.plain.1 (λ p. absurd (omega (arith, begins (sym p ∙ c.in-e.is)))) (λ d. absurd (omega (arith, begins (sym d ∙ c.in-e.is)))) (λ _. none))
 
 pub returns-in_default : goal.returns-in_default
