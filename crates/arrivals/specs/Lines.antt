@@ -1,5 +1,5 @@
 -- The line that a request about a received block or message is written as: words, with one blank between.
-use Rattle.std.specs.Prelude.{◌≡◌, ℕ, ◌^◌, ◌<◌, ◌≤◌, List, ◌++◌, vec_items, string_bytes, codes, decimal, ◌≢◌}
+use Rattle.std.specs.Prelude.{ℕ, ◌^◌, ◌<◌, ◌≤◌, List, ◌++◌, vec_items, string_bytes, codes, decimal, ◌≢◌}
 use Rattle.tokens.specs.Bytes.{shown_bytes, Bytes}
 use Rattle.tokens.specs.Words.{spaced, Plain}
 use Rattle.arrivals.specs.declared.arrival.Arrival.{Arrival}

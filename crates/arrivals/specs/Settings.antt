@@ -1,5 +1,5 @@
 -- Texts that begin with no number behind a key.
-use Rattle.std.specs.Prelude.{◌≡◌, ℕ, ◌≤◌, List, ◌++◌, decimal, ◌≢◌}
+use Rattle.std.specs.Prelude.{ℕ, ◌≤◌, List, ◌++◌, decimal, ◌≢◌}
 use Rattle.tokens.specs.Words.{spaced}
 
 -- no key, number up to `most`, blank and more are written so

@@ -1,5 +1,5 @@
 -- Registers that are written one by one, R_31 first.
-use Rattle.std.proofs.Common.{◌≡◌, ℕ, ◌+◌, ◌-◌, ◌<◌, ◌≤◌, List, [], ◌∷◌, ◌++◌, map, reverse, length, get_or, drop, sym, refl, ap, ◌∙◌, arith}
+use Rattle.std.proofs.Common.{◌≡◌, ℕ, ◌+◌, ◌-◌, ◌<◌, ◌≤◌, List, [], ◌∷◌, ◌++◌, map, reverse, length, get_or, drop, sym, ap, ◌∙◌, arith}
 use Rattle.std.proofs.lemmas.List.{drop_more, drop_all, reverse-append, map-append, append_assoc, append-nil}
 use Rattle.tokens.specs.Bytes.{two_digits, spelled}
 use Rattle.tokens.proofs.Digits.{spelled_push}

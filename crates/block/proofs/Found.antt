@@ -1,15 +1,14 @@
 -- Steps of the search for the first broken lane and root, and what its answer says of all lanes.
 use Rattle.std.proofs.Common.{◌≡◌, ℕ, zero, suc, ◌+◌, ◌-◌, ◌<◌, ◌≤◌, Bool, true, false, cond, not, eqb, List, length, Some, None, Option, sym, refl, ap, ◌∙◌, subst, ap₂, ⊎_elim, add-one, arith, eq-eqb, eqb-true}
 use Rattle.std.proofs.lemmas.Bool.{cases_lt, false≢true}
-use Rattle.std.proofs.lemmas.Bool.Decides.{not_from_Decides}
 use Rattle.field.specs.First.{first_of}
 use Rattle.field.proofs.Firsts.{first_found, first_passed, none_passes, none_found, IsFirst, is_first}
-use Rattle.code.specs.Code.{telemetry, root, Codeword}
+use Rattle.code.specs.Code.{telemetry, Codeword}
 use Rattle.dual_form.specs.DualForm.{dual_ops}
 use Rattle.dual_form.specs.DualLaws.{dual_laws}
 use Rattle.block.specs.Depths.{is_depth, block_length}
 use Rattle.block.specs.Lanes.{word}
-use Rattle.block.specs.Verdicts.{number, Found, all_zero, broken, Answer, checked, refused, sum_at, is_broken, broken_root, broken_or, first_broken, check_of, lanes_are, lanes_refused, lanes_of, Sound, First, Accepts}
+use Rattle.block.specs.Verdicts.{number, Found, all_zero, broken, Answer, checked, refused, sum_at, is_broken, broken_root, broken_or, first_broken, check_of, lanes_are, lanes_refused, lanes_of, First, Accepts}
 use Rattle.block.specs.declared.fault.BlockFault.TheVariants.{NoDepth, BlockLength}
 use Rattle.block.proofs.Places.{length_word}
 

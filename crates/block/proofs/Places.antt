@@ -1,13 +1,11 @@
 -- The places of a lane in a block, and the lane turned round, C_0 first.
-use Rattle.std.proofs.Common.{◌≡◌, ℕ, ◌+◌, ◌-◌, ◌*◌, ◌/◌, ◌%◌, ◌<◌, ◌≤◌, List, map, reverse, length, get_or, sym, refl, ap, ◌∙◌, ap₂, zero-add, arith}
+use Rattle.std.proofs.Common.{◌≡◌, ℕ, ◌+◌, ◌-◌, ◌*◌, ◌/◌, ◌%◌, ◌<◌, List, map, length, get_or, sym, ap, ◌∙◌, zero-add, arith}
 use lib.ListN.{length-reverse}
-use Rattle.std.specs.List.{range_with_len}
-use Rattle.std.proofs.lemmas.Nat.{mul-add-lt, div-add-mod', div_below, mod_below}
+use Rattle.std.proofs.lemmas.Nat.{mul-add-lt, div-add-mod', div_below}
 use Rattle.std.proofs.lemmas.List.{get_or-map, get_or-reverse, length-map}
 use Rattle.std.proofs.lemmas.List.FromFn.{fill_by_all, get_or-map-range_with_len, length-map-range_with_len}
 use Rattle.dual_form.specs.DualForm.{symbol, dual_ops}
 use Rattle.dual_form.specs.declared.element.Dual.{Dual}
-use Rattle.block.specs.Depths.{block_length}
 use Rattle.block.specs.Lanes.{lane, word, Interleaved}
 
 pub length_lane : (n d : ℕ) (bytes : List ℕ) (l : ℕ) → length (lane n d bytes l) ≡ n

@@ -1,5 +1,5 @@
 -- Texts that are, or begin with, no number of a lane or a place.
-use Rattle.std.specs.Prelude.{◌≡◌, ℕ, ◌^◌, ◌<◌, List, decimal, ◌≢◌}
+use Rattle.std.specs.Prelude.{ℕ, ◌^◌, ◌<◌, List, decimal, ◌≢◌}
 use Rattle.tokens.specs.Words.{spaced}
 
 -- no number of 64 bits is written so

@@ -1,5 +1,5 @@
 -- The line that a call on a bank is written as: words, with one blank between.
-use Rattle.std.specs.Prelude.{◌≡◌, ℕ, ◌^◌, ◌<◌, List, string_bytes, codes, decimal, ◌≢◌}
+use Rattle.std.specs.Prelude.{ℕ, ◌^◌, ◌<◌, List, string_bytes, codes, decimal, ◌≢◌}
 use Rattle.tokens.specs.Bytes.{two_digits}
 use Rattle.tokens.specs.Words.{spaced, Plain}
 use Rattle.calls.specs.declared.call.Call.{Call}

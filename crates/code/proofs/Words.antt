@@ -1,12 +1,12 @@
 -- Equal symbols, and sums of codewords, in a code of any size.
-use mathlib.Core.Path.{◌≡◌, refl, sym, subst, ap, ap₂, ◌∙◌}
+use mathlib.Core.Path.{◌≡◌, sym, subst, ap, ap₂, ◌∙◌}
 use mathlib.Core.List.{List, [], ◌∷◌}
 use Prim.Native.Nat.{ℕ, zero, suc, ◌+◌, ◌*◌, ◌%◌, ◌<◌, ◌≤◌}
 use native.Mathlib.Omega.{arith}
 use lib.Dec.{leb, leb→le}
 use lib.ListN.{length, replicate, length-replicate}
 use Rattle.table.proofs.Tests.{below}
-use Rattle.field.specs.Field.{Ops, power, alpha_power}
+use Rattle.field.specs.Field.{Ops, power}
 use Rattle.polynomial.specs.Coefficients.{plus}
 use Rattle.polynomial.proofs.Algebra.{value_plus}
 use Rattle.polynomial.proofs.Geometric.{equal_vanish}

@@ -2,7 +2,7 @@
 use Rattle.std.specs.Prelude.{◌≡◌, List, replicate}
 use Rattle.field.specs.Field.{Ops}
 use Rattle.polynomial.specs.Coefficients.{plus}
-use Rattle.code.specs.Code.{Code, telemetry, Codeword}
+use Rattle.code.specs.Code.{telemetry, Codeword}
 
 pub record Codewords {F : Type 0} (o : Ops F) : Type 0 where
   -- where α has as many powers as a codeword has symbols, any symbol repeated is a codeword

@@ -1,12 +1,11 @@
 -- What the ends of a correction say.
-use Rattle.std.proofs.Common.{◌≡◌, ℕ, ◌+◌, ◌<◌, ◌≤◌, Bool, true, false, ◌⊎◌, List, [], ◌∷◌, length, Some, None, Option, sym, refl, ap, ◌∙◌, subst, ap₂, inl, inr, arith}
+use Rattle.std.proofs.Common.{◌≡◌, ℕ, ◌+◌, ◌<◌, ◌≤◌, Bool, true, ◌⊎◌, List, length, Some, None, Option, sym, refl, ap, ◌∙◌, subst, ap₂, inl, inr, arith}
 use Rattle.std.proofs.lemmas.Bool.{cases_lt}
 use Rattle.field.specs.Field.{power, alpha_power}
 use Rattle.field.specs.Polynomial.{value, Vanishes}
 use Rattle.field.proofs.Ring.{Lawful, no_divisor}
 use Rattle.polynomial.specs.Coefficients.{coeff, Nought, Monic, Remainder}
 use Rattle.polynomial.specs.Division.{Reduced}
-use Rattle.polynomial.specs.Sums.{All}
 use Rattle.polynomial.proofs.Algebra.{value_zero}
 use Rattle.polynomial.proofs.Sums.{all_map}
 use Rattle.polynomial.proofs.Entries.{coeff_past}
@@ -19,7 +18,7 @@ use Rattle.generator.specs.Generator.{generator}
 use Rattle.generator.proofs.Products.{monic_product}
 use Rattle.generator.proofs.Divisors.{value_remainder}
 use Rattle.locator.specs.Recurrence.{Recurrence}
-use Rattle.locator.specs.Correction.{locator, Syndromes, Near, Repaired, counted, root_places}
+use Rattle.locator.specs.Correction.{locator, Syndromes, root_places}
 use Rattle.locator.proofs.Counts.{passing, length_passing, passing_all, passing_apart}
 use Rattle.locator.proofs.Quotients.{few}
 use Rattle.locator.proofs.Repairs.{locators_apart, scale_not_zero}

@@ -1,5 +1,5 @@
 -- Reciprocals as code has them, and the start of the search for the shortest recurrence in buffers.
-use Rattle.std.proofs.Common.{◌≡◌, ℕ, zero, suc, ◌<◌, ◌⊎◌, List, [], ◌∷◌, length, set, Some, None, sym, refl, ap, ◌∙◌, subst, inl, inr, arith}
+use Rattle.std.proofs.Common.{◌≡◌, ℕ, zero, suc, ◌<◌, ◌⊎◌, List, [], ◌∷◌, length, set, Some, None, sym, ap, ◌∙◌, subst, inl, inr, arith}
 use Rattle.field.proofs.Ring.{Lawful}
 use Rattle.polynomial.specs.Coefficients.{coeff, Nought}
 use Rattle.polynomial.proofs.Clauses.{clauses}

@@ -1,11 +1,11 @@
 -- The search over the places: what holds before each, and at the next.
-use Rattle.std.proofs.Common.{◌≡◌, ℕ, zero, suc, ◌+◌, ◌<◌, ◌≤◌, true, false, ◌⊎◌, List, [], ◌∷◌, length, set, sym, refl, ap, ◌∙◌, subst, ap₂, inl, inr, add-one, arith}
+use Rattle.std.proofs.Common.{◌≡◌, ℕ, suc, ◌+◌, ◌<◌, ◌≤◌, true, false, ◌⊎◌, List, [], ◌∷◌, length, sym, refl, ap, ◌∙◌, subst, ap₂, inl, inr, add-one, arith}
 use Rattle.std.proofs.lemmas.Bool.{cases_lt}
 use Rattle.field.specs.Field.{power, alpha_power}
 use Rattle.field.specs.Polynomial.{value}
 use Rattle.field.proofs.Ring.{Lawful, ring, mul_assoc, zero_mul, mul_zero, mul_one}
 use Rattle.polynomial.specs.Coefficients.{coeff}
-use Rattle.polynomial.proofs.Clauses.{clauses, values, value_cons, value_nil, coeff_zero, coeff_suc, coeff_nil, power_zero, power_suc}
+use Rattle.polynomial.proofs.Clauses.{clauses, values, value_cons, coeff_zero, coeff_suc, coeff_nil, power_zero, power_suc}
 use Rattle.polynomial.proofs.Powers.{power_mul, power_one}
 use Rattle.code.specs.Code.{Code, gamma_power, root}
 use Rattle.locator.specs.Applied.{applied, deflated}

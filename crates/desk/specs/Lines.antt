@@ -1,5 +1,5 @@
 -- The line that is printed for a line that was read.
-use Rattle.std.specs.Prelude.{◌≡◌, ℕ, ◌⊎◌, List, [], ◌∷◌, ◌++◌, vec_items, string_bytes, codes, decimal}
+use Rattle.std.specs.Prelude.{◌≡◌, ℕ, List, ◌++◌, vec_items, string_bytes, codes, decimal}
 use Rattle.power_form.specs.PowerForm.{power_ops}
 use Rattle.dual_form.specs.DualForm.{dual_ops}
 use Rattle.exponent_form.specs.ExponentForm.{logarithm_ops}
@@ -7,7 +7,6 @@ use Rattle.block.specs.Verdicts.{Answer, checked, refused, shown_found, check_of
 use Rattle.tokens.specs.Faults.{shown_fault}
 use Rattle.spelling.specs.Kinds.{power_text, dual_text, logarithm_text}
 use Rattle.tokens.specs.declared.fault.Fault.{Fault}
-use Rattle.requests.specs.Lines.{written, NoRequest}
 use Rattle.requests.specs.declared.requested.Request.{Request}
 use Rattle.requests.specs.declared.requested.Request.TheVariants.{Check, AtPower, AtDual, AtExponent}
 use Rattle.desk.specs.Replies.{Replied}

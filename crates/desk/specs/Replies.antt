@@ -1,5 +1,5 @@
 -- The lines that answer questions about elements of any kind.
-use Rattle.std.specs.Prelude.{◌≡◌, ℕ, Bool, true, false, List, [], ◌∷◌, ◌++◌, Some, None, vec_items, codes, decimal, Option}
+use Rattle.std.specs.Prelude.{◌≡◌, ℕ, Bool, true, false, List, ◌∷◌, ◌++◌, Some, None, vec_items, codes, decimal, Option}
 use Rattle.field.specs.Field.{Ops}
 use Rattle.field.specs.Polynomial.{value, first_root}
 use Rattle.polynomial.specs.Division.{Divided}

@@ -1,5 +1,5 @@
 -- Registers that took zeros and then one symbol.
-use Rattle.std.proofs.Common.{◌≡◌, ℕ, zero, suc, ◌-◌, ◌<◌, ◌≤◌, List, [], ◌∷◌, ◌++◌, length, replicate, sym, refl, ap, ◌∙◌, ap₂, le_of_suc-le-suc, not-suc-le-zero, arith}
+use Rattle.std.proofs.Common.{◌≡◌, ℕ, zero, suc, ◌-◌, ◌≤◌, List, [], ◌∷◌, ◌++◌, length, replicate, refl, ap, ◌∙◌, ap₂, le_of_suc-le-suc, not-suc-le-zero, arith}
 use lib.ListN.{length-replicate}
 use Rattle.field.proofs.Ring.{Lawful, ring}
 use Rattle.polynomial.specs.Coefficients.{coeff}
@@ -7,8 +7,7 @@ use Rattle.polynomial.proofs.Entries.{coeff_zeros}
 use Rattle.code.specs.Code.{Code, root}
 use Rattle.generator.specs.Generator.{generator}
 use Rattle.generator.proofs.Products.{length_product}
-use Rattle.divider.specs.Claims.{Steps}
-use Rattle.divider.specs.Registers.{moved, feedback, taken, all_taken, cleared, registers}
+use Rattle.divider.specs.Registers.{moved, taken, all_taken, cleared, registers}
 use Rattle.divider.proofs.Messages.{steps}
 
 module _ {K : Type 0} (F : Lawful K) where

@@ -1,5 +1,5 @@
 -- The exponent form keeps the laws, by those of the power form.
-use Rattle.std.specs.Prelude.{◌≡◌, ℕ, zero, suc, ◌+◌, ◌-◌, ◌%◌, ◌<◌, Bool, true, false, T, ◌≢◌, ◌⊎◌, Some, None, Decides, ◌==◌, nat_lt, refl}
+use Rattle.std.specs.Prelude.{◌≡◌, ℕ, ◌+◌, ◌-◌, ◌%◌, ◌<◌, Bool, true, false, ◌≢◌, ◌⊎◌, Some, Decides, ◌==◌, nat_lt, refl}
 use Rattle.std.proofs.Common.{sym, subst, ap, ap₂, ◌∙◌, inl, inr, arith, leb→le, ne_eqb}
 use mathlib.Core.HLevel.{is_prop→PathP}
 use Rattle.std.proofs.Math.Bridge.{le_prop}
@@ -13,7 +13,7 @@ use Rattle.power_form.specs.declared.element.Power.{Power}
 use Rattle.table.proofs.Tests.{below}
 use Rattle.power_form.specs.ByteLaws.{exponent_of_power, power_of_exponent, powers_product, power_mod, product_zero}
 use Rattle.power_form.specs.PowerLaws.{power_equal, element_of, product_bits, power_bits, power_laws, reciprocal_some}
-use Rattle.exponent_form.specs.ExponentForm.{numbered, power_of_logarithm, logarithm_if, logarithm_of_power, logarithm_ops}
+use Rattle.exponent_form.specs.ExponentForm.{power_of_logarithm, logarithm_if, logarithm_of_power, logarithm_ops}
 use Rattle.exponent_form.specs.declared.element.Exponent.{Exponent}
 use Rattle.exponent_form.specs.declared.element.Logarithm.{Logarithm}
 use Rattle.exponent_form.specs.declared.element.Logarithm.TheVariants.{Star, Of}

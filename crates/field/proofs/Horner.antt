@@ -1,5 +1,5 @@
 -- Horner's rule, and that it gives the value of a polynomial.
-use Rattle.std.proofs.Common.{◌≡◌, ℕ, zero, suc, ◌+◌, ◌-◌, ◌<◌, ◌≤◌, List, [], ◌∷◌, length, get_or, drop, sym, refl, ap, ◌∙◌, ap₂, not-suc-le-zero, add-one, arith, drop-cons}
+use Rattle.std.proofs.Common.{◌≡◌, ℕ, zero, suc, ◌+◌, ◌-◌, ◌<◌, ◌≤◌, List, [], ◌∷◌, length, get_or, drop, sym, ap, ◌∙◌, ap₂, not-suc-le-zero, add-one, arith, drop-cons}
 use Rattle.field.specs.Field.{Ops, power}
 use Rattle.field.specs.Polynomial.{terms, value}
 use Rattle.field.proofs.Ring.{Lawful, ring}

@@ -1,5 +1,5 @@
 -- Equations that hold in every field of characteristic 2: `simp ring` proves them.
-use Rattle.std.proofs.Common.{◌≡◌, sym, refl, ap, ◌∙◌, ap₂}
+use Rattle.std.proofs.Common.{◌≡◌, sym, ap, ◌∙◌, ap₂}
 use Rattle.field.specs.Field.{Ops, Laws}
 
 -- Operations together with their laws, so that a lemma has one argument, which a goal determines.

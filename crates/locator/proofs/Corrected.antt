@@ -8,7 +8,7 @@ use Rattle.polynomial.specs.Coefficients.{coeff, Same, times, Monic}
 use Rattle.polynomial.specs.Sums.{All, Distinct, psum}
 use Rattle.polynomial.proofs.Entries.{coeff_past}
 use Rattle.polynomial.proofs.Algebra.{value_times, value_same}
-use Rattle.polynomial.proofs.Sums.{all_map, all_both, sums, psum_zero}
+use Rattle.polynomial.proofs.Sums.{all_map, all_both, psum_zero}
 use Rattle.code.specs.Code.{Code, Codeword}
 use Rattle.generator.specs.Claims.{Fits}
 use Rattle.generator.proofs.Gammas.{spreads}

@@ -1,6 +1,5 @@
 -- What a decoder may answer: each of its refusals is right, and a word that it accepts is the only one.
-use Rattle.std.proofs.Common.{◌≡◌, ℕ, suc, ◌+◌, ◌<◌, ◌≤◌, cond, List, [], ◌∷◌, length, sym, refl, ap, ◌∙◌, subst, arith}
-use Rattle.field.specs.Field.{Ops}
+use Rattle.std.proofs.Common.{◌≡◌, ℕ, suc, ◌+◌, ◌<◌, cond, List, [], ◌∷◌, length, sym, refl, ap, ◌∙◌, subst, arith}
 use Rattle.field.specs.Polynomial.{value, Vanishes}
 use Rattle.field.proofs.Ring.{Lawful}
 use Rattle.polynomial.specs.Words.{distance}

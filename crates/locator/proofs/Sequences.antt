@@ -1,7 +1,7 @@
 -- A polynomial applied to a sequence: what sums, multiples, shifts and products of polynomials give, and what power sums give.
 use Rattle.std.proofs.Common.{◌≡◌, ℕ, zero, suc, ◌+◌, ◌<◌, ◌≤◌, ◌⊎◌, List, [], ◌∷◌, ◌++◌, sym, refl, ap, ◌∙◌, inl, inr, add-suc, suc-add, zero-add as nat_zero_add, arith}
 use Rattle.std.proofs.lemmas.Bool.{cases_lt, cases_eq}
-use Rattle.field.specs.Field.{Ops, power}
+use Rattle.field.specs.Field.{Ops}
 use Rattle.field.specs.Polynomial.{value}
 use Rattle.field.proofs.Ring.{Lawful, ring, mul_zero}
 use Rattle.polynomial.specs.Coefficients.{coeff, Same, plus, scale, shift, times, Monic}

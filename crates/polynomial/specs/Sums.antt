@@ -1,5 +1,5 @@
 -- Sums of powers over a list of places.
-use Rattle.std.specs.Prelude.{◌≡◌, ℕ, List, [], ◌∷◌, ◌≢◌}
+use Rattle.std.specs.Prelude.{ℕ, List, [], ◌∷◌, ◌≢◌}
 use Rattle.field.specs.Field.{Ops, power}
 
 -- P holds of each entry.

@@ -1,5 +1,5 @@
 -- Words, lists of symbols: in how many places two differ, and where.
-use Rattle.std.specs.Prelude.{ℕ, zero, suc, Bool, true, false, cond, List, [], ◌∷◌}
+use Rattle.std.specs.Prelude.{ℕ, suc, Bool, true, false, cond, List, [], ◌∷◌}
 use Rattle.field.specs.Field.{Ops}
 
 -- The number of places in which two words differ.

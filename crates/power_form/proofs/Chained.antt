@@ -1,5 +1,5 @@
 -- What the rule of the table of powers gives at each place.
-use Rattle.std.proofs.Common.{◌≡◌, ℕ, zero, suc, ◌+◌, ◌<◌, Bool, true, false, T, eqb, List, [], ◌∷◌, length, get_or, sym, refl, ap, ◌∙◌, subst, le_of_suc-le-suc, not-suc-le-zero, arith, eqb→eq}
+use Rattle.std.proofs.Common.{◌≡◌, ℕ, zero, suc, ◌+◌, ◌<◌, true, T, eqb, List, [], ◌∷◌, length, get_or, sym, ap, ◌∙◌, subst, le_of_suc-le-suc, not-suc-le-zero, arith, eqb→eq}
 use Rattle.power_form.specs.Arithmetic.{times_alpha, alpha_byte}
 use Rattle.power_form.specs.Chain.{chain}
 use Rattle.table.proofs.Tests.{both_left, both_right}

@@ -1,7 +1,6 @@
 -- Each result of the arithmetic is a byte, and each exponent is below 255.
 use Rattle.std.proofs.Common.{sym, subst, zero-mul, one-mul, arith, lit<}
 use Rattle.std.specs.Prelude.{ℕ, zero, suc, ◌+◌, ◌-◌, ◌*◌, ◌/◌, ◌%◌, ◌<◌, ◌≤◌, true, false, ◌==◌}
-use Rattle.std.specs.Int.Bits.{bit_xor}
 use Rattle.std.proofs.lemmas.Nat.{xor_lt}
 use Rattle.power_form.specs.Arithmetic.{times_alpha, alpha_byte, scaled, product, exponent_from, exponent, inverse}
 

@@ -1,9 +1,8 @@
 -- The laws of the field, on bytes. Those of the product are tests at the eight bits, computed once, and carried to all bytes
 -- by additivity; those of exponents are one test each over the 255 powers.
-use Rattle.std.specs.Prelude.{◌≡◌, ℕ, zero, suc, ◌+◌, ◌-◌, ◌*◌, ◌/◌, ◌%◌, ◌^◌, ◌<◌, ◌≤◌, Bool, true, false, T, ◌⊎◌, ◌≢◌, nat_eq, refl}
-use Rattle.std.proofs.Common.{sym, ap, ap₂, subst, ◌∙◌, inl, inr, zero-mul, suc-mul, zero-add, add-zero, suc-add, add_assoc, add_comm, arith, eqb→eq, lit<}
-use Rattle.std.specs.Int.Bits.{bit_xor, xor_zero_r}
-use Rattle.std.proofs.lemmas.Nat.{div-add-mod', xor_lt}
+use Rattle.std.specs.Prelude.{◌≡◌, ℕ, zero, suc, ◌+◌, ◌*◌, ◌/◌, ◌%◌, ◌^◌, ◌<◌, Bool, T, ◌⊎◌, ◌≢◌, nat_eq, refl}
+use Rattle.std.proofs.Common.{sym, ap, ap₂, ◌∙◌, inl, inr, zero-mul, zero-add, suc-add, arith, lit<}
+use Rattle.std.proofs.lemmas.Nat.{div-add-mod'}
 use Rattle.power_form.specs.Arithmetic.{times_alpha, alpha_byte, scaled, product, exponent_from, exponent, inverse}
 use Rattle.power_form.specs.Bounds.{power_below}
 use Rattle.table.specs.Computed.{all_below}

@@ -1,8 +1,8 @@
 -- Functions on bytes that keep sums (xor): each is known from its values at the eight bits.
-use Rattle.std.specs.Prelude.{◌≡◌, ℕ, zero, suc, ◌+◌, ◌*◌, ◌/◌, ◌%◌, ◌^◌, ◌<◌, ◌≤◌, Bool, true, false, ◌&&◌, T, bit_xor, refl}
-use Rattle.std.proofs.Common.{sym, ap, ap₂, subst, ◌∙◌, zero-mul, one-mul, arith, eqb→eq}
-use Rattle.std.specs.Int.Bits.{xor_self, xor_assoc, xor_zero_r, xor_shifted}
-use Rattle.std.proofs.lemmas.Nat.{shr_split, shr_below, mod_below, pow_pos, xor_comm}
+use Rattle.std.specs.Prelude.{◌≡◌, ℕ, zero, suc, ◌*◌, ◌/◌, ◌%◌, ◌^◌, ◌<◌, bit_xor}
+use Rattle.std.proofs.Common.{sym, ap, ap₂, subst, ◌∙◌, zero-mul, one-mul, arith}
+use Rattle.std.specs.Int.Bits.{xor_self, xor_shifted}
+use Rattle.std.proofs.lemmas.Nat.{shr_split, shr_below, mod_below, pow_pos}
 
 abbrev pub Additive : (ℕ → ℕ) → Type 0
 Additive f = (a b : ℕ) → f (bit_xor a b) ≡ bit_xor (f a) (f b)

@@ -1,13 +1,13 @@
 -- The power form keeps the laws of a field.
-use Rattle.std.specs.Prelude.{◌≡◌, ℕ, zero, suc, ◌%◌, ◌<◌, Bool, true, false, ◌≢◌, Some, None, ◌==◌, bit_xor, refl}
+use Rattle.std.specs.Prelude.{◌≡◌, ℕ, zero, suc, ◌%◌, ◌<◌, ◌≢◌, Some, ◌==◌, bit_xor, refl}
 use Rattle.std.proofs.Common.{sym, ap, ap₂, ◌∙◌, arith, ne_eqb}
 use mathlib.Core.HLevel.{is_prop→PathP}
 use Rattle.std.proofs.Math.Bridge.{le_prop}
 use Rattle.std.specs.Int.Bits.{xor_self, xor_assoc}
 use Rattle.std.proofs.lemmas.Nat.{xor_comm, xor_lt}
 use Rattle.std.proofs.lemmas.Bool.Decides.{Decides-eqb, Decides-like}
-use Rattle.field.specs.Field.{Ops, Laws, power}
-use Rattle.power_form.specs.Arithmetic.{alpha_byte, times_alpha, product, exponent, inverse}
+use Rattle.field.specs.Field.{Laws, power}
+use Rattle.power_form.specs.Arithmetic.{alpha_byte, product, exponent, inverse}
 use Rattle.power_form.specs.PowerForm.{element, power_ops, reciprocal_if}
 use Rattle.power_form.specs.declared.element.Power.{Power}
 use Rattle.power_form.specs.Bounds.{power_below, product_below, inverse_below}

@@ -1,11 +1,11 @@
 -- Texts behind a verb and a kind that ask nothing.
-use Rattle.std.proofs.Common.{◌≡◌, ℕ, ◌^◌, ◌<◌, List, [], ◌∷◌, ◌++◌, length, get_or, vec_items, codes, decimal, sym, refl, ap, ◌∙◌, arith, length-append}
+use Rattle.std.proofs.Common.{◌≡◌, ℕ, ◌^◌, ◌<◌, List, ◌∷◌, length, get_or, vec_items, codes, decimal, refl, ap, arith, length-append}
 use Rattle.spelling.specs.Lists.{written_list}
 use Rattle.tokens.specs.Words.{spaced, Plain}
 use Rattle.tokens.proofs.Blanks.{cut_once, lacks_told, unkeyed}
 use Rattle.requests.specs.declared.request.Question.{Question}
 use Rattle.requests.specs.declared.request.Question.TheVariants.{Constants, Operate, Evaluate, Divide, Root}
-use Rattle.requests.specs.Lines.{InRange, asked, NoQuestion, Asking}
+use Rattle.requests.specs.Lines.{asked, NoQuestion, Asking}
 
 -- texts that begin with different bytes differ
 pub begins : {a b : List ℕ} → a ≡ b → get_or a 0 0 ≡ get_or b 0 0

@@ -1,5 +1,5 @@
 -- Lines that are no request.
-use Rattle.std.proofs.Common.{◌≡◌, ℕ, ◌^◌, ◌<◌, List, ◌++◌, vec_items, string_bytes, codes, decimal, sym, refl, ap, ◌∙◌, subst, arith}
+use Rattle.std.proofs.Common.{◌≡◌, ℕ, ◌^◌, ◌<◌, List, ◌++◌, vec_items, string_bytes, codes, decimal, sym, refl, ap, ◌∙◌, arith}
 use Rattle.std.specs.Str.Iter.{LacksByte}
 use Rattle.tokens.specs.Bytes.{shown_bytes, Bytes}
 use Rattle.spelling.specs.Kinds.{power_text, dual_text, logarithm_text}

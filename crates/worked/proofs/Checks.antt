@@ -1,9 +1,9 @@
 -- The checks that one symbol behind zeros leaves: the symbol times the generator's coefficients.
-use mathlib.Core.Path.{◌≡◌, refl, sym, ap, ◌∙◌}
+use mathlib.Core.Path.{◌≡◌, refl, ap, ◌∙◌}
 use mathlib.Core.List.{[], ◌∷◌, ◌++◌}
 use Prim.Native.Nat.{ℕ, ◌≤◌}
 use lib.ListN.{replicate}
-use Rattle.field.specs.Field.{power, alpha_power}
+use Rattle.field.specs.Field.{alpha_power}
 use Rattle.field.proofs.Carried.{carried_power}
 use Rattle.field.proofs.Ring.{Lawful}
 use Rattle.polynomial.specs.Coefficients.{coeff}
@@ -14,7 +14,7 @@ use Rattle.dual_form.specs.DualForm.{symbol, power_of_dual, dual_of_power, dual_
 use Rattle.dual_form.specs.declared.element.Dual.{Dual}
 use Rattle.dual_form.specs.DualLaws.{dual_equal, dual_laws, back}
 use Rattle.code.specs.Code.{telemetry}
-use Rattle.generator.specs.Generator.{generator, listed}
+use Rattle.generator.specs.Generator.{listed}
 use Rattle.generator.proofs.Computed.{listed_forms}
 use Rattle.divider.specs.Registers.{registers}
 use Rattle.divider.proofs.Zeros.{last_symbol}

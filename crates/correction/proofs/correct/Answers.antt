@@ -1,4 +1,4 @@
-use Rattle.std.proofs.Common.{◌≡◌, refl}
+use Rattle.std.proofs.Common.{refl}
 use Rattle.field.proofs.Ring.{Lawful}
 use Rattle.code.specs.Code.{telemetry}
 use Rattle.correction.proofs.Endings.{clean_word}

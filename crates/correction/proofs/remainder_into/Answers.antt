@@ -1,4 +1,4 @@
-use Rattle.std.proofs.Common.{◌≡◌, ap, subst, arith, rules}
+use Rattle.std.proofs.Common.{subst}
 use Rattle.field.proofs.Ring.{Lawful}
 use Rattle.polynomial.specs.Coefficients.{Nought}
 use Rattle.polynomial.specs.Division.{Reduced}

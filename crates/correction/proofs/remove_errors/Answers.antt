@@ -1,4 +1,4 @@
-use Rattle.std.proofs.Common.{◌≡◌, ℕ, ◌<◌, length, refl, ap, ◌∙◌, inl, inr, arith, rules}
+use Rattle.std.proofs.Common.{◌≡◌, ℕ, ◌<◌, length, refl, ap, ◌∙◌, inr, arith, rules}
 use Rattle.field.specs.Field.{power}
 use Rattle.polynomial.specs.Coefficients.{coeff}
 use Rattle.field.proofs.Ring.{Lawful}

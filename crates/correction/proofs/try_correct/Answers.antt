@@ -1,4 +1,4 @@
-use Rattle.std.proofs.Common.{◌≡◌, ℕ, ◌<◌, length, replicate, refl, ap, subst, arith, rules}
+use Rattle.std.proofs.Common.{◌≡◌, length, replicate, refl, ap, subst, arith, rules}
 use Rattle.field.proofs.Ring.{Lawful}
 use Rattle.polynomial.specs.Coefficients.{coeff}
 use Rattle.code.specs.Code.{telemetry}

@@ -1,5 +1,4 @@
-use mathlib.Core.Path.{ap, ◌∙◌}
-use Prim.Native.Nat.{◌%◌}
+use mathlib.Core.Path.{◌∙◌}
 use lib.Bits.{xor_lt}
 use Rattle.power_form.specs.PowerLaws.{stays}
 use Rattle.dual_form.specs.Bytes.{dual_sum}

@@ -1,4 +1,4 @@
-use Rattle.std.proofs.Common.{◌≡◌, ◌++◌, codes, ap, ◌∙◌, append_assoc}
+use Rattle.std.proofs.Common.{◌++◌, codes, ap, ◌∙◌, append_assoc}
 use Rattle.packet.specs.Items.{items}
 use Rattle.accounts.specs.Next.{parted}
 use Rattle.accounts.proofs.items.next_line.Goals as goal

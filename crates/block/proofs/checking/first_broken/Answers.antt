@@ -1,9 +1,8 @@
-use Rattle.std.proofs.Common.{◌≡◌, ◌+◌, ◌-◌, true, false, sym, ap, ◌∙◌, ap₂, arith}
+use Rattle.std.proofs.Common.{◌≡◌, ◌+◌, ◌-◌, true, false, sym, ap, ◌∙◌, ap₂}
 use Rattle.field.specs.Field.{alpha_power}
 use Rattle.field.specs.Polynomial.{value}
 use Rattle.field.proofs.Firsts.{first_none}
 use Rattle.field.proofs.Horner.{power_next}
-use Rattle.code.specs.Code.{telemetry, gamma_power}
 use Rattle.dual_form.specs.DualForm.{dual_ops}
 use Rattle.block.specs.Verdicts.{sum_at, is_broken, broken_or, first_broken}
 use Rattle.block.proofs.Found.{lanes_opened, lanes_done, root_passed, root_stops}

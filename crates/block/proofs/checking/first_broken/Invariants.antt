@@ -1,5 +1,4 @@
 use Rattle.std.proofs.Common.{◌≡◌, ◌+◌, ◌-◌}
-use Rattle.field.specs.Field.{alpha_power}
 use Rattle.field.specs.First.{first_of}
 use Rattle.code.specs.Code.{telemetry, gamma_power}
 use Rattle.dual_form.specs.DualForm.{dual_ops}

@@ -1,5 +1,4 @@
 use Rattle.std.proofs.Common.{◌-◌, get_or, sym, ap, ◌∙◌, arith, length-set}
-use Rattle.field.proofs.Ring.{Lawful}
 use Rattle.correction.proofs.Growing.{grow_start, grow_next}
 use Rattle.correction.proofs.recurrence.grow.Goals as goal
 

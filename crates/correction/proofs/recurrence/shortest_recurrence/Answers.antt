@@ -1,5 +1,4 @@
-use Rattle.std.proofs.Common.{◌≡◌, length, ap, ◌∙◌, subst, arith, length-set, rules}
-use lib.ListN.{length-replicate}
+use Rattle.std.proofs.Common.{◌≡◌, length, ap, ◌∙◌, arith, length-set, rules}
 use Rattle.field.proofs.Ring.{Lawful}
 use Rattle.polynomial.specs.Coefficients.{coeff}
 use Rattle.polynomial.proofs.Entries.{coeff_zeros}

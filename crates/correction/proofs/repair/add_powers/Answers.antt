@@ -1,4 +1,4 @@
-use Rattle.std.proofs.Common.{◌≡◌, sym, ◌∙◌, ap₂, arith, length-set}
+use Rattle.std.proofs.Common.{sym, ◌∙◌, ap₂, arith, length-set}
 use Rattle.field.specs.Field.{power}
 use Rattle.field.proofs.Ring.{Lawful}
 use Rattle.correction.proofs.Rows.{changed_none, changed_next, multiple_none, multiple_next}

@@ -1,5 +1,4 @@
 use Rattle.std.proofs.Common.{◌≡◌, arith}
-use Rattle.field.proofs.Ring.{Lawful}
 use Rattle.correction.proofs.Quotients.{down_start, down_next, down_all}
 use Rattle.correction.proofs.repair.divide_by.Goals as goal
 

@@ -1,5 +1,4 @@
-use Rattle.std.proofs.Common.{◌≡◌, length, ap, ◌∙◌, arith, rules}
-use Rattle.field.proofs.Ring.{Lawful}
+use Rattle.std.proofs.Common.{◌≡◌, length, ap, arith, rules}
 use Rattle.code.specs.Code.{telemetry}
 use Rattle.correction.proofs.Places.{first_place, terms_above, double, next_place, all_places}
 use Rattle.correction.proofs.repair.repair.Goals as goal

@@ -1,5 +1,4 @@
 use Rattle.std.proofs.Common.{sym, arith, rules}
-use Rattle.field.proofs.Ring.{Lawful}
 use Rattle.correction.proofs.Rows.{zeros_next, zeros_broken, zeros_all}
 use Rattle.correction.proofs.syndromes.all_zero.Goals as goal
 

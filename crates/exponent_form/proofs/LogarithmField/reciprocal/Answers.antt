@@ -1,4 +1,4 @@
-use Rattle.std.proofs.Common.{sym, refl, ap, ◌∙◌}
+use Rattle.std.proofs.Common.{sym, ap, ◌∙◌}
 use Rattle.exponent_form.specs.ExponentForm.{logarithm_ops}
 use Rattle.exponent_form.specs.ExponentLaws.{logarithm_reciprocal}
 use Rattle.exponent_form.proofs.LogarithmField.reciprocal.Goals as goal

@@ -1,4 +1,4 @@
-use Rattle.std.proofs.Common.{sym, refl, ◌∙◌, ap₂}
+use Rattle.std.proofs.Common.{sym, ◌∙◌, ap₂}
 use Rattle.exponent_form.specs.ExponentForm.{logarithm_ops}
 use Rattle.exponent_form.specs.ExponentLaws.{same_of, star_not_of, of_not_star}
 use Rattle.exponent_form.proofs.LogarithmField.same.Goals as goal

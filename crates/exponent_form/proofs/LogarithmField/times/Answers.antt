@@ -1,4 +1,4 @@
-use Rattle.std.proofs.Common.{sym, refl, ap, ◌∙◌, ap₂}
+use Rattle.std.proofs.Common.{sym, ap, ◌∙◌, ap₂}
 use Rattle.exponent_form.specs.ExponentForm.{logarithm_ops}
 use Rattle.exponent_form.specs.ExponentLaws.{logarithm_product, product_star_left, product_star_right}
 use Rattle.exponent_form.proofs.LogarithmField.times.Goals as goal

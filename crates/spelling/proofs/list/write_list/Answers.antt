@@ -1,4 +1,4 @@
-use Rattle.std.proofs.Common.{◌<◌, length, is_ok, refl, ap, arith, rules}
+use Rattle.std.proofs.Common.{◌<◌, length, is_ok, ap, arith, rules}
 use Rattle.std.proofs.ResultArms.{chosen}
 use Rattle.spelling.proofs.Commas.{write_more, write_all}
 use Rattle.spelling.proofs.list.write_list.Goals as goal
