@@ -7,7 +7,7 @@ use Rattle.std.specs.Int.Count.{ones}
 use Rattle.table.specs.Computed.{all_below}
 use Rattle.table.proofs.Tests.{below, agree}
 use Rattle.power_form.specs.Arithmetic.{times_alpha, alpha_byte, scaled, product}
-use Rattle.power_form.specs.Products.{bit_keeps, swap}
+use Rattle.power_form.specs.Products.{bit_keeps, swap_middle}
 use Rattle.dual_form.specs.Dual.{squares, trace, beta, dual_bits, to_dual, dual_exponents, basis_sum, of_dual}
 
 pub of_to : (a : ℕ) → a < 256 → of_dual (to_dual a % 256) % 256 ≡ a
@@ -27,7 +27,7 @@ basis_sum_keeps (e ∷ es) x y =
     (ap (λ b. b % 2 * alpha_byte e) (xor_shr x y k) ∙ ap (λ b. b * alpha_byte e) (xor_mod (x / 2 ^ k) (y / 2 ^ k) 1)
     ∙ bit_keeps (alpha_byte e) (x / 2 ^ k % 2) (y / 2 ^ k % 2) (omega arith) (omega arith))
     (basis_sum_keeps es x y)
-    ∙ swap (x / 2 ^ k % 2 * alpha_byte e) (y / 2 ^ k % 2 * alpha_byte e) (basis_sum es x) (basis_sum es y)
+    ∙ swap_middle (x / 2 ^ k % 2 * alpha_byte e) (y / 2 ^ k % 2 * alpha_byte e) (basis_sum es x) (basis_sum es y)
 
 of_dual_keeps : (x y : ℕ) → of_dual (bit_xor x y) % 256 ≡ bit_xor (of_dual x % 256) (of_dual y % 256) % 256
 unfolding of_dual

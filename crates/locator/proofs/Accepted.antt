@@ -4,7 +4,7 @@ use Rattle.std.proofs.lemmas.Bool.Decides.{Decides-not}
 use Rattle.field.specs.Polynomial.{value, Vanishes}
 use Rattle.field.proofs.Ring.{Lawful, eq_of_sum, no_divisor}
 use Rattle.polynomial.specs.Coefficients.{coeff, Same, times}
-use Rattle.polynomial.specs.Sums.{All}
+use Rattle.polynomial.specs.Sums.{Each}
 use Rattle.polynomial.proofs.Algebra.{value_times, value_same}
 use Rattle.polynomial.proofs.Sums.{all_both}
 use Rattle.code.specs.Code.{Code, root}
@@ -35,7 +35,7 @@ module _ {K : Type 0} (F : Lawful K) (c : Code) (fits : Fits F.ops c) where
         x : K
         x = locator F.ops c i
 
-        go : In i flags ⊎ All (λ a. a ≡ i → ⊥) flags → value F.ops poly x ≡ 𝟎
+        go : In i flags ⊎ Each (λ a. a ≡ i → ⊥) flags → value F.ops poly x ≡ 𝟎
         go (inl m) = absurd (changed (erased_flagged F.ops flags received i m ∙ sym (erased_flagged F.ops flags after i m)))
         go (inr clear) = factor (decided F (value F.ops all x) 𝟎)
           where

@@ -5,7 +5,7 @@ use Rattle.field.specs.Field.{power, alpha_power}
 use Rattle.field.specs.Polynomial.{value}
 use Rattle.field.proofs.Ring.{Lawful, ring, mul_assoc}
 use Rattle.polynomial.specs.Coefficients.{coeff}
-use Rattle.polynomial.specs.Sums.{All, Distinct, psum}
+use Rattle.polynomial.specs.Sums.{Each, Distinct, psum}
 use Rattle.polynomial.proofs.Clauses.{value_cons, power_zero, power_suc, coeff_zero, coeff_suc}
 use Rattle.polynomial.proofs.Entries.{coeff_set_here, coeff_set_other}
 use Rattle.polynomial.proofs.Algebra.{value_same}
@@ -64,8 +64,8 @@ module _ {K : Type 0} (F : Lawful K) where
     replaced r w = simp ring
 
     -- the syndromes of two words differ by a power sum over places outside which the words agree
-    pub by_support : (v : List K) (k : ℕ) (ls : List ℕ) → Distinct (λ i. i) ls → (w : List K) → All (λ i. i < length w) ls
-        → ((i : ℕ) → All (λ a. a ≡ i → ⊥) ls → coeff F.ops v i ≡ coeff F.ops w i)
+    pub by_support : (v : List K) (k : ℕ) (ls : List ℕ) → Distinct (λ i. i) ls → (w : List K) → Each (λ i. i < length w) ls
+        → ((i : ℕ) → Each (λ a. a ≡ i → ⊥) ls → coeff F.ops v i ≡ coeff F.ops w i)
         → psum F.ops (amount v w) (locator F.ops c) ls k ≡ syndrome F.ops c v k ⊕ syndrome F.ops c w k
     by_support v k [] d w inside agree = simp (sums, value_same F v w (λ i. agree i tt), ring)
     by_support v k (j ∷ ls) d w inside agree =
@@ -86,7 +86,7 @@ module _ {K : Type 0} (F : Lawful K) where
         w' : List K
         w' = set w j (coeff F.ops w j ⊕ e)
 
-        agreed : (i : ℕ) → All (λ a. a ≡ i → ⊥) ls → (i ≡ j) ⊎ (i ≡ j → ⊥) → coeff F.ops v i ≡ coeff F.ops w' i
+        agreed : (i : ℕ) → Each (λ a. a ≡ i → ⊥) ls → (i ≡ j) ⊎ (i ≡ j → ⊥) → coeff F.ops v i ≡ coeff F.ops w' i
         agreed i off (inl same) =
             ap (coeff F.ops v) same
             ∙ sym (replaced (coeff F.ops v j) (coeff F.ops w j))

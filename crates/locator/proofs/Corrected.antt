@@ -5,7 +5,7 @@ use Rattle.std.proofs.lemmas.Bool.Decides.{not_from_Decides, Decides-not, Decide
 use Rattle.field.specs.Polynomial.{value}
 use Rattle.field.proofs.Ring.{Lawful, ring, eq_of_sum, no_divisor, mul_zero, zero_add}
 use Rattle.polynomial.specs.Coefficients.{coeff, Same, times, Monic}
-use Rattle.polynomial.specs.Sums.{All, Distinct, psum}
+use Rattle.polynomial.specs.Sums.{Each, Distinct, psum}
 use Rattle.polynomial.proofs.Entries.{coeff_past}
 use Rattle.polynomial.proofs.Algebra.{value_times, value_same}
 use Rattle.polynomial.proofs.Sums.{all_map, all_both, psum_zero}
@@ -65,15 +65,15 @@ module _ {K : Type 0} (F : Lawful K) (c : Code) (fits : Fits F.ops c) where
         ∙ sym (distance_counted F.ops _ _ (e ∙ near.long ∙ sym near.codeword.long ∙ sym (length_erased F.ops flags w)))
 
     -- each of them is a place, and wrong; no other place is
-    places_wrong : All (λ i. (i < c.symbols) × Wrong i) places
+    places_wrong : Each (λ i. (i < c.symbols) × Wrong i) places
     unfolding places
     places_wrong = all_map (λ i. (i < c.symbols) × (test i ≡ true)) _ (λ i h. (h.0, (tested i).0 h.1)) _ (passing_all test c.symbols)
 
-    off_places : (i : ℕ) → i < c.symbols → All (λ a. a ≡ i → ⊥) places → Wrong i → ⊥
+    off_places : (i : ℕ) → i < c.symbols → Each (λ a. a ≡ i → ⊥) places → Wrong i → ⊥
     unfolding places
     off_places i l off bad = not_from_Decides (test i) (tested i) (not_passing test c.symbols i l off) bad
 
-    places_inside : All (λ i. i < c.symbols) places
+    places_inside : Each (λ i. i < c.symbols) places
     places_inside = all_map (λ i. (i < c.symbols) × Wrong i) _ (λ i h. h.0) places places_wrong
 
     places_apart : Distinct (λ i. i) places
@@ -83,24 +83,24 @@ module _ {K : Type 0} (F : Lawful K) (c : Code) (fits : Fits F.ops c) where
     not_flagged : (i : ℕ) → Wrong i → In i flags → ⊥
     not_flagged i bad m = bad (erased_flagged F.ops flags received i m ∙ sym (erased_flagged F.ops flags w i m))
 
-    unflagged : (i : ℕ) → Wrong i → All (λ a. a ≡ i → ⊥) flags
+    unflagged : (i : ℕ) → Wrong i → Each (λ a. a ≡ i → ⊥) flags
     unflagged i bad = go (member i flags)
       where
-        go : In i flags ⊎ All (λ a. a ≡ i → ⊥) flags → All (λ a. a ≡ i → ⊥) flags
+        go : In i flags ⊎ Each (λ a. a ≡ i → ⊥) flags → Each (λ a. a ≡ i → ⊥) flags
         go (inl m) = absurd (not_flagged i bad m)
         go (inr off) = off
 
     -- flagged and wrong places together
-    inside : All (λ i. i < c.symbols) (flags ++ places)
+    inside : Each (λ i. i < c.symbols) (flags ++ places)
     inside = all_append (λ i. i < c.symbols) flags places good.inside places_inside
 
     apart : Distinct (λ i. i) (flags ++ places)
     apart =
         distinct_append (λ i. i) flags places good.apart places_apart
-        (all_each (λ b. All (λ a. a ≡ b → ⊥) places) flags
+        (all_each (λ b. Each (λ a. a ≡ b → ⊥) places) flags
         (λ b m. all_map (λ i. (i < c.symbols) × Wrong i) (λ a. a ≡ b → ⊥) (λ a h e. not_flagged a h.1 (subst (λ z. In z flags) (sym e) m)) places places_wrong))
 
-    agree : (i : ℕ) → All (λ a. a ≡ i → ⊥) (flags ++ places) → coeff F.ops received i ≡ coeff F.ops w i
+    agree : (i : ℕ) → Each (λ a. a ≡ i → ⊥) (flags ++ places) → coeff F.ops received i ≡ coeff F.ops w i
     agree i off = go (cases_lt i c.symbols) (decided F _ _)
       where
         go : (i < c.symbols) ⊎ (c.symbols ≤ i) → (coeff F.ops (erased F.ops flags received) i ≡ coeff F.ops (erased F.ops flags w) i) ⊎ Wrong i
@@ -132,7 +132,7 @@ module _ {K : Type 0} (F : Lawful K) (c : Code) (fits : Fits F.ops c) where
             ∙ zero_add F _;
       }
 
-      some : All (λ a. v a ≡ 𝟎 → ⊥) places
+      some : Each (λ a. v a ≡ 𝟎 → ⊥) places
       unfolding v
       some = all_map (λ i. (i < c.symbols) × Wrong i) _ (λ a h e. go a h.0 h.1 e) places places_wrong
         where
@@ -175,7 +175,7 @@ module _ {K : Type 0} (F : Lawful K) (c : Code) (fits : Fits F.ops c) where
             number' : length places ≡ counted test c.symbols
             number' = unfold places in length_passing test c.symbols
 
-            to : (i : ℕ) → i < c.symbols → Wrong i → In i places ⊎ All (λ a. a ≡ i → ⊥) places → value F.ops poly (locator F.ops c i) ≡ 𝟎
+            to : (i : ℕ) → i < c.symbols → Wrong i → In i places ⊎ Each (λ a. a ≡ i → ⊥) places → value F.ops poly (locator F.ops c i) ≡ 𝟎
             to i l bad (inl m) = all_in (λ a. value F.ops poly (locator F.ops c a) ≡ 𝟎) i places of_poly.roots m
             to i l bad (inr off) = absurd (off_places i l off bad)
 

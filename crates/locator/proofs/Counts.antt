@@ -4,7 +4,7 @@ use mathlib.Core.Bool.{false≢true}
 use Rattle.std.proofs.lemmas.Bool.{cases_eq}
 use Rattle.field.specs.Field.{Ops}
 use Rattle.polynomial.specs.Coefficients.{coeff}
-use Rattle.polynomial.specs.Sums.{All, Distinct}
+use Rattle.polynomial.specs.Sums.{Each, Distinct}
 use Rattle.polynomial.specs.Words.{distance}
 use Rattle.polynomial.proofs.Sums.{all_map}
 use Rattle.locator.specs.Correction.{counted}
@@ -27,12 +27,12 @@ length_passing p (suc n) = go (p n) (length_passing p n)
     go true e = ap suc e
     go false e = e
 
-pub passing_all : (p : ℕ → Bool) (n : ℕ) → All (λ i. (i < n) × (p i ≡ true)) (passing p n)
+pub passing_all : (p : ℕ → Bool) (n : ℕ) → Each (λ i. (i < n) × (p i ≡ true)) (passing p n)
 unfolding passing
 passing_all p zero = tt
 passing_all p (suc n) = go _ refl (all_map (λ i. (i < n) × (p i ≡ true)) (λ i. (i < suc n) × (p i ≡ true)) (λ i h. (omega (arith, h.0), h.1)) _ (passing_all p n))
   where
-    go : (b : Bool) → p n ≡ b → All (λ i. (i < suc n) × (p i ≡ true)) (passing p n) → All (λ i. (i < suc n) × (p i ≡ true)) (listed b n (passing p n))
+    go : (b : Bool) → p n ≡ b → Each (λ i. (i < suc n) × (p i ≡ true)) (passing p n) → Each (λ i. (i < suc n) × (p i ≡ true)) (listed b n (passing p n))
     go true e h = ((omega arith, e), h)
     go false e h = h
 
@@ -41,17 +41,17 @@ unfolding passing
 passing_apart p zero = tt
 passing_apart p (suc n) = go (p n) (all_map (λ i. (i < n) × (p i ≡ true)) (λ i. i ≡ n → ⊥) (λ i h e. absurd (omega (arith, h.0))) _ (passing_all p n)) (passing_apart p n)
   where
-    go : (b : Bool) → All (λ i. i ≡ n → ⊥) (passing p n) → Distinct (λ i. i) (passing p n) → Distinct (λ i. i) (listed b n (passing p n))
+    go : (b : Bool) → Each (λ i. i ≡ n → ⊥) (passing p n) → Distinct (λ i. i) (passing p n) → Distinct (λ i. i) (listed b n (passing p n))
     go true h d = (h, d)
     go false h d = d
 
 -- a number that is not listed does not pass
-pub not_passing : (p : ℕ → Bool) (n i : ℕ) → i < n → All (λ a. a ≡ i → ⊥) (passing p n) → p i ≡ false
+pub not_passing : (p : ℕ → Bool) (n i : ℕ) → i < n → Each (λ a. a ≡ i → ⊥) (passing p n) → p i ≡ false
 unfolding passing
 not_passing p zero i l h = absurd (omega arith)
 not_passing p (suc n) i l h = go _ refl h (cases_eq i n) (not_passing p n i)
   where
-    go : (b : Bool) → p n ≡ b → All (λ a. a ≡ i → ⊥) (listed b n (passing p n)) → (i ≡ n) ⊎ (i ≡ n → ⊥) → (i < n → All (λ a. a ≡ i → ⊥) (passing p n) → p i ≡ false) → p i ≡ false
+    go : (b : Bool) → p n ≡ b → Each (λ a. a ≡ i → ⊥) (listed b n (passing p n)) → (i ≡ n) ⊎ (i ≡ n → ⊥) → (i < n → Each (λ a. a ≡ i → ⊥) (passing p n) → p i ≡ false) → p i ≡ false
     go true e h (inl same) rest = absurd (h.0 (sym same))
     go true e h (inr other) rest = rest (omega arith) h.1
     go false e h (inl same) rest = ap p same ∙ e

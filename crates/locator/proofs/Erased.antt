@@ -5,7 +5,7 @@ use Rattle.std.proofs.lemmas.Bool.{cases_eq, cases_lt}
 use Rattle.field.specs.Field.{Ops}
 use Rattle.field.proofs.Ring.{Lawful}
 use Rattle.polynomial.specs.Coefficients.{coeff}
-use Rattle.polynomial.specs.Sums.{All}
+use Rattle.polynomial.specs.Sums.{Each}
 use Rattle.polynomial.specs.Words.{distance}
 use Rattle.polynomial.proofs.Entries.{coeff_past, coeff_set_here, coeff_set_other}
 use Rattle.locator.specs.Erasures.{erased}
@@ -35,7 +35,7 @@ module _ {K : Type 0} (o : Ops K) where
       go (inr other) (inl e) rest = absurd (other (sym e))
       go (inr other) (inr h) rest = coeff_set_other o (erased o flags w) j i o.nought other ∙ rest h
 
-  pub erased_other : (flags : List ℕ) (w : List K) (i : ℕ) → All (λ a. a ≡ i → ⊥) flags → coeff o (erased o flags w) i ≡ coeff o w i
+  pub erased_other : (flags : List ℕ) (w : List K) (i : ℕ) → Each (λ a. a ≡ i → ⊥) flags → coeff o (erased o flags w) i ≡ coeff o w i
   unfolding erased
   erased_other [] w i h = refl
   erased_other (j ∷ flags) w i h = coeff_set_other o (erased o flags w) j i o.nought (λ e. h.0 (sym e)) ∙ erased_other flags w i h.1

@@ -4,7 +4,7 @@ use Rattle.std.proofs.lemmas.Bool.Decides.{not_from_Decides}
 use Rattle.field.specs.Polynomial.{value}
 use Rattle.field.proofs.Ring.{Lawful, ring, mul_comm, mul_zero, no_divisor}
 use Rattle.polynomial.specs.Coefficients.{coeff, times, Monic}
-use Rattle.polynomial.specs.Sums.{All, Distinct, psum}
+use Rattle.polynomial.specs.Sums.{Each, Distinct, psum}
 use Rattle.polynomial.proofs.Clauses.{values, power_zero}
 use Rattle.polynomial.proofs.Algebra.{value_times}
 use Rattle.polynomial.proofs.Sums.{all_map, all_both, psum_cons, psum_zero, power_sums}
@@ -32,7 +32,7 @@ module _ {K A : Type 0} (F : Lawful K) where
   infixl 60 ◌⊕◌
   infixl 70 ◌⊗◌
   -- a sum of which one term is left
-  psum_one : (w x : A → K) (ls : List A) → Distinct x ls → (b : A) → In b ls → All (λ a. (x a ≡ x b → ⊥) → w a ≡ 𝟎) ls → psum F.ops w x ls 0 ≡ w b
+  psum_one : (w x : A → K) (ls : List A) → Distinct x ls → (b : A) → In b ls → Each (λ a. (x a ≡ x b → ⊥) → w a ≡ 𝟎) ls → psum F.ops w x ls 0 ≡ w b
   psum_one w x [] d b i h = absurd i
   psum_one w x (a ∷ ls) d b (inl e) h =
       let rest = all_both (λ c. x c ≡ x a → ⊥) (λ c. (x c ≡ x b → ⊥) → w c ≡ 𝟎) (λ c. w c ≡ 𝟎) (λ c m f. f (λ z. m (z ∙ ap x (sym e)))) ls d.0 h.1 in
@@ -57,7 +57,7 @@ module _ {K A : Type 0} (F : Lawful K) where
     located_by (a ∷ ls) = let h = located_by ls in (times F.ops (x a ∷ 𝟏 ∷ []) h.0, locates_more a ls h.0 h.1)
 
     module _ (ls : List A) (d : Distinct x ls) (poly : List K) (h : Locates F.ops x ls poly) where
-      pub no_other : (y : K) → value F.ops poly y ≡ 𝟎 → All (λ a. x a ≡ y → ⊥) ls → ⊥
+      pub no_other : (y : K) → value F.ops poly y ≡ 𝟎 → Each (λ a. x a ≡ y → ⊥) ls → ⊥
       no_other y root others = let n = few_beside F x ls d poly (length ls) y h.monic root others h.roots in omega arith
 
       pub simple : (y : K) → value F.ops poly y ≡ 𝟎 → value F.ops (deflated F.ops y poly) y ≡ 𝟎 → ⊥
@@ -91,7 +91,7 @@ module _ {K A : Type 0} (F : Lawful K) where
           root : value F.ops poly (x b) ≡ 𝟎
           root = all_in (λ a. value F.ops poly (x a) ≡ 𝟎) b ls h.roots i
 
-          others : All (λ a. (x a ≡ x b → ⊥) → v a ⊗ value F.ops q (x a) ≡ 𝟎) ls
+          others : Each (λ a. (x a ≡ x b → ⊥) → v a ⊗ value F.ops q (x a) ≡ 𝟎) ls
           others = all_map (λ a. value F.ops poly (x a) ≡ 𝟎) _ (λ a e other. ap (λ z. v a ⊗ z) (other_root F poly (x b) (x a) root other e) ∙ mul_zero F (v a)) ls h.roots
 
           go : (m : ℕ) → m ≡ length ls → Monic F.ops poly m → applied F.ops q t 0 ≡ v b ⊗ value F.ops q (x b)
@@ -100,7 +100,7 @@ module _ {K A : Type 0} (F : Lawful K) where
               applied_sums q m 0 (monic_deflated F (x b) poly m monic).above (omega arith)
               ∙ psum_one (λ a. v a ⊗ value F.ops q (x a)) x ls s.apart b i others
 
-      module _ (some : All (λ a. v a ≡ 𝟎 → ⊥) ls) (room : length ls + length ls ≤ n) (poly : List K) (degree : ℕ) (old : List K) (miss : K)
+      module _ (some : Each (λ a. v a ≡ 𝟎 → ⊥) ls) (room : length ls + length ls ≤ n) (poly : List K) (degree : ℕ) (old : List K) (miss : K)
           (r : Recurrence F.ops t n poly degree old miss) where
         low : degree ≤ length ls
         low =
@@ -109,7 +109,7 @@ module _ {K A : Type 0} (F : Lawful K) where
             (λ j l. applied_sums p.0 (length ls) j p.1.monic.above l
             ∙ psum_zero F _ x ls j (all_map (λ a. value F.ops p.0 (x a) ≡ 𝟎) _ (λ a e. ap (λ z. v a ⊗ z) e ∙ mul_zero F (v a)) ls p.1.roots))
 
-        roots : All (λ a. value F.ops poly (x a) ≡ 𝟎) ls
+        roots : Each (λ a. value F.ops poly (x a) ≡ 𝟎) ls
         roots =
             all_both (λ a. v a ≡ 𝟎 → ⊥) (λ a. v a ⊗ value F.ops poly (x a) ≡ 𝟎) _ (λ a other e. no_divisor F _ (v a) (mul_comm F _ (v a) ∙ e) other) ls some
             (power_sums F (length ls) (λ a. v a ⊗ value F.ops poly (x a)) x ls (omega arith) s.apart

@@ -4,7 +4,7 @@ use Rattle.std.proofs.lemmas.List.{get_or-drop}
 use Rattle.field.specs.Polynomial.{value}
 use Rattle.field.proofs.Ring.{Lawful, ring, add_zero, eq_of_sum, no_divisor}
 use Rattle.polynomial.specs.Coefficients.{coeff, Same, Monic}
-use Rattle.polynomial.specs.Sums.{All, Distinct}
+use Rattle.polynomial.specs.Sums.{Each, Distinct}
 use Rattle.polynomial.proofs.Clauses.{clauses, values, coeff_suc}
 use Rattle.polynomial.proofs.Algebra.{value_zero, value_same}
 use Rattle.polynomial.proofs.Factors.{deflated as quotient, value_deflated as value_quotient}
@@ -97,8 +97,8 @@ module _ {K A : Type 0} (F : Lawful K) (x : A → K) where
   open F.ops use {nought as 𝟎, unit as 𝟏, sum as ◌⊕◌, product as ◌⊗◌}
 
   -- one root beside others
-  beside : (ls : List A) (p : List K) (m : ℕ) (y : K) → Monic F.ops p m → value F.ops p y ≡ 𝟎 → All (λ a. x a ≡ y → ⊥) ls → All (λ a. value F.ops p (x a) ≡ 𝟎) ls
-      → ((q : List K) (n : ℕ) → Monic F.ops q n → All (λ a. value F.ops q (x a) ≡ 𝟎) ls → length ls ≤ n) → length ls < m
+  beside : (ls : List A) (p : List K) (m : ℕ) (y : K) → Monic F.ops p m → value F.ops p y ≡ 𝟎 → Each (λ a. x a ≡ y → ⊥) ls → Each (λ a. value F.ops p (x a) ≡ 𝟎) ls
+      → ((q : List K) (n : ℕ) → Monic F.ops q n → Each (λ a. value F.ops q (x a) ≡ 𝟎) ls → length ls ≤ n) → length ls < m
   beside ls p zero y h root others roots few = absurd (no_root F p y h root)
   beside ls p (suc m) y h root others roots few =
       let n = few (deflated F.ops y p) m (monic_deflated F y p m h)
@@ -106,10 +106,10 @@ module _ {K A : Type 0} (F : Lawful K) (x : A → K) where
       omega arith
 
   -- a monic polynomial has at most as many different roots as its degree
-  pub few : (ls : List A) → Distinct x ls → (p : List K) (m : ℕ) → Monic F.ops p m → All (λ a. value F.ops p (x a) ≡ 𝟎) ls → length ls ≤ m
+  pub few : (ls : List A) → Distinct x ls → (p : List K) (m : ℕ) → Monic F.ops p m → Each (λ a. value F.ops p (x a) ≡ 𝟎) ls → length ls ≤ m
   few [] d p m h roots = omega arith
   few (b ∷ ls) d p m h roots = beside ls p m (x b) h roots.0 d.0 roots.1 (few ls d.1)
 
-  pub few_beside : (ls : List A) → Distinct x ls → (p : List K) (m : ℕ) (y : K) → Monic F.ops p m → value F.ops p y ≡ 𝟎 → All (λ a. x a ≡ y → ⊥) ls
-      → All (λ a. value F.ops p (x a) ≡ 𝟎) ls → length ls < m
+  pub few_beside : (ls : List A) → Distinct x ls → (p : List K) (m : ℕ) (y : K) → Monic F.ops p m → value F.ops p y ≡ 𝟎 → Each (λ a. x a ≡ y → ⊥) ls
+      → Each (λ a. value F.ops p (x a) ≡ 𝟎) ls → length ls < m
   few_beside ls d p m y h root others roots = beside ls p m y h root others roots (few ls d)

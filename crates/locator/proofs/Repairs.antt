@@ -5,7 +5,7 @@ use Rattle.field.specs.Field.{power, alpha_power}
 use Rattle.field.specs.Polynomial.{value}
 use Rattle.field.proofs.Ring.{Lawful, ring, eq_of_sum, no_divisor, add_self, add_zero}
 use Rattle.polynomial.specs.Coefficients.{coeff}
-use Rattle.polynomial.specs.Sums.{All, Distinct}
+use Rattle.polynomial.specs.Sums.{Each, Distinct}
 use Rattle.polynomial.proofs.Entries.{coeff_past, coeff_set_here, coeff_set_other, same_list}
 use Rattle.polynomial.proofs.Powers.{power_not_zero}
 use Rattle.polynomial.proofs.Sums.{all_map, all_both}
@@ -78,7 +78,7 @@ module _ {K : Type 0} (F : Lawful K) (c : Code) where
     pub other_locator : (i j : ℕ) → i < c.symbols → j < c.symbols → (i ≡ j → ⊥) → locator F.ops c i ≡ locator F.ops c j → ⊥
     other_locator i j hi hj n e = n (gammas_apart F c fits i j hi hj e)
 
-    pub locators_apart : (ls : List ℕ) → All (λ i. i < c.symbols) ls → Distinct (λ i. i) ls → Distinct (locator F.ops c) ls
+    pub locators_apart : (ls : List ℕ) → Each (λ i. i < c.symbols) ls → Distinct (λ i. i) ls → Distinct (locator F.ops c) ls
     locators_apart [] h d = tt
     locators_apart (j ∷ ls) h d =
         (all_both (λ i. i < c.symbols) (λ i. i ≡ j → ⊥) _ (λ i l n. other_locator i j l h.0 n) ls h.1 d.0, locators_apart ls h.1 d.1)
@@ -96,11 +96,11 @@ module _ {K : Type 0} (F : Lawful K) (c : Code) where
     same_rest r a w e = sym (added r a) ∙ ap (λ s. r ⊕ s) e ∙ added r w
 
     -- the roots of a locator polynomial among the locators are those of its list
-    pub root_listed : (ls : List ℕ) → All (λ i. i < c.symbols) ls → Distinct (λ i. i) ls → (poly : List K) → Locates F.ops (locator F.ops c) ls poly
+    pub root_listed : (ls : List ℕ) → Each (λ i. i < c.symbols) ls → Distinct (λ i. i) ls → (poly : List K) → Locates F.ops (locator F.ops c) ls poly
         → (i : ℕ) → i < c.symbols → value F.ops poly (locator F.ops c i) ≡ 𝟎 → In i ls
     root_listed ls inside apart poly h i l root = go (member i ls)
       where
-        go : In i ls ⊎ All (λ a. a ≡ i → ⊥) ls → In i ls
+        go : In i ls ⊎ Each (λ a. a ≡ i → ⊥) ls → In i ls
         go (inl m) = m
         go (inr off) =
             absurd (no_other F (locator F.ops c) ls (locators_apart ls inside apart) poly h (locator F.ops c i) root
@@ -108,8 +108,8 @@ module _ {K : Type 0} (F : Lawful K) (c : Code) where
 
     -- A received word and a codeword that agree off the places of a list.
     module _ (received w : List K) (long : length received ≡ c.symbols) (codeword : Codeword F.ops c w) (ls : List ℕ)
-        (inside : All (λ i. i < c.symbols) ls) (apart : Distinct (λ i. i) ls)
-        (agree : (i : ℕ) → All (λ a. a ≡ i → ⊥) ls → coeff F.ops received i ≡ coeff F.ops w i) where
+        (inside : Each (λ i. i < c.symbols) ls) (apart : Distinct (λ i. i) ls)
+        (agree : (i : ℕ) → Each (λ a. a ≡ i → ⊥) ls → coeff F.ops received i ≡ coeff F.ops w i) where
       -- the syndromes are the power sums of the differences
       pub syndrome_sums : (t : ℕ → K) → Syndromes F.ops c received t → SumsOf F.ops t c.checks (amount F c received w) (locator F.ops c) ls
       syndrome_sums t begins = record {
@@ -129,7 +129,7 @@ module _ {K : Type 0} (F : Lawful K) (c : Code) where
           x : ℕ → K
           x = locator F.ops c
 
-          off : (i : ℕ) → (value F.ops poly (x i) ≡ 𝟎 → ⊥) → All (λ a. a ≡ i → ⊥) ls
+          off : (i : ℕ) → (value F.ops poly (x i) ≡ 𝟎 → ⊥) → Each (λ a. a ≡ i → ⊥) ls
           off i other = all_map (λ a. value F.ops poly (x a) ≡ 𝟎) _ (λ a z e. other (sym (ap (λ m. value F.ops poly (x m)) e) ∙ z)) ls h.roots
 
           inner : (i : ℕ) → i < c.symbols → (value F.ops poly (x i) ≡ 𝟎) ⊎ (value F.ops poly (x i) ≡ 𝟎 → ⊥) → coeff F.ops after i ≡ coeff F.ops w i

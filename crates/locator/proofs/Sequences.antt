@@ -5,7 +5,7 @@ use Rattle.field.specs.Field.{Ops}
 use Rattle.field.specs.Polynomial.{value}
 use Rattle.field.proofs.Ring.{Lawful, ring, mul_zero}
 use Rattle.polynomial.specs.Coefficients.{coeff, Same, plus, scale, shift, times, Monic}
-use Rattle.polynomial.specs.Sums.{All, psum}
+use Rattle.polynomial.specs.Sums.{Each, psum}
 use Rattle.polynomial.proofs.Clauses.{clauses, values, value_cons}
 use Rattle.polynomial.proofs.Sums.{sums, psum_cons, psum_zero}
 use Rattle.locator.specs.Applied.{applied}
@@ -126,7 +126,7 @@ module _ {K A : Type 0} (F : Lawful K) where
   psum_horner c e v x (a ∷ ls) j = rw (psum_cons, psum_horner c e v x ls j) (simp (sums, ring))
 
   -- values that agree have the same sums
-  pub psum_same : (v w x : A → K) (ls : List A) (k : ℕ) → All (λ a. v a ≡ w a) ls → psum F.ops v x ls k ≡ psum F.ops w x ls k
+  pub psum_same : (v w x : A → K) (ls : List A) (k : ℕ) → Each (λ a. v a ≡ w a) ls → psum F.ops v x ls k ≡ psum F.ops w x ls k
   psum_same v w x [] k h = simp sums
   psum_same v w x (a ∷ ls) k h = simp (sums, h.0, psum_same v w x ls k h.1)
 

@@ -3,7 +3,7 @@ use Rattle.std.specs.Prelude.{◌≡◌, ℕ, suc, ◌+◌, ◌-◌, ◌<◌, �
 use Rattle.field.specs.Field.{Ops}
 use Rattle.field.specs.Polynomial.{value, Vanishes}
 use Rattle.polynomial.specs.Coefficients.{Same, plus, scale, shift, times}
-use Rattle.polynomial.specs.Sums.{All, Distinct, psum}
+use Rattle.polynomial.specs.Sums.{Each, Distinct, psum}
 use Rattle.polynomial.specs.Words.{distance}
 use Rattle.code.specs.Code.{Code, root}
 use Rattle.locator.specs.Applied.{applied, deflated}
@@ -38,16 +38,16 @@ pub record Locators {F : Type 0} (o : Ops F) : Type 0 where
   -- a polynomial applied to power sums multiplies each value by the polynomial's value at the locator
   pub of_sums : (p : List F) (v x : ℕ → F) (ls : List ℕ) (j : ℕ) → applied o p (psum o v x ls) j ≡ psum o (λ a. o.product (v a) (value o p (x a))) x ls j
   -- of at most half as many values other than zero as places, the recurrence is the locator polynomial
-  pub located : (t : ℕ → F) (n : ℕ) (v x : ℕ → F) (ls : List ℕ) → SumsOf o t n v x ls → All (λ a. v a ≢ o.nought) ls → length ls + length ls ≤ n
+  pub located : (t : ℕ → F) (n : ℕ) (v x : ℕ → F) (ls : List ℕ) → SumsOf o t n v x ls → Each (λ a. v a ≢ o.nought) ls → length ls + length ls ≤ n
       → (poly : List F) (degree : ℕ) (old : List F) (miss : F) → Recurrence o t n poly degree old miss → (degree ≡ length ls) × Locates o x ls poly
   -- a locator polynomial has no other root, and no double one
   pub no_other : (x : ℕ → F) (ls : List ℕ) → Distinct x ls → (poly : List F) → Locates o x ls poly
-      → (y : F) → value o poly y ≡ o.nought → All (λ a. x a ≢ y) ls → ⊥
+      → (y : F) → value o poly y ≡ o.nought → Each (λ a. x a ≢ y) ls → ⊥
   pub simple : (x : ℕ → F) (ls : List ℕ) → Distinct x ls → (poly : List F) → Locates o x ls poly
       → (y : F) → value o poly y ≡ o.nought → value o (deflated o y poly) y ≢ o.nought
   -- without the root of one entry, and applied to the power sums, it gives the value of that entry times its own value at the locator
   pub values : (t : ℕ → F) (n : ℕ) (v x : ℕ → F) (ls : List ℕ) → SumsOf o t n v x ls → length ls ≤ n → (poly : List F) → Locates o x ls poly
-      → All (λ a. applied o (deflated o (x a) poly) t 0 ≡ o.product (v a) (value o (deflated o (x a) poly) (x a))) ls
+      → Each (λ a. applied o (deflated o (x a) poly) t 0 ≡ o.product (v a) (value o (deflated o (x a) poly) (x a))) ls
 
 -- What the shortest recurrence of the syndromes tells, where a codeword w is near enough to the received word.
 pub record Tells {F : Type 0} (o : Ops F) (c : Code) (received w : List F) (t : ℕ → F) (poly : List F) (degree : ℕ) : Type 0 where

@@ -1,7 +1,7 @@
 -- Correction with erasures: places that are flagged as unsure, whose symbols count for nothing.
 use Rattle.std.specs.Prelude.{◌≡◌, ℕ, ◌+◌, ◌<◌, ◌≤◌, List, [], ◌∷◌, length, slice_set}
 use Rattle.field.specs.Field.{Ops}
-use Rattle.polynomial.specs.Sums.{All, Distinct}
+use Rattle.polynomial.specs.Sums.{Each, Distinct}
 use Rattle.polynomial.specs.Words.{distance}
 use Rattle.code.specs.Code.{Code, Codeword}
 
@@ -12,7 +12,7 @@ erased o (i ∷ flags) w = slice_set (erased o flags w) i o.nought
 
 -- The flagged places are places of a word, and no two are alike.
 pub record Flags (c : Code) (flags : List ℕ) : Type 0 where
-  pub inside : All (λ i. i < c.symbols) flags
+  pub inside : Each (λ i. i < c.symbols) flags
   pub apart : Distinct (λ i. i) flags
 
 -- The number of places, but for the flagged ones, in which two words differ.

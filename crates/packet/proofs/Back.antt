@@ -1,6 +1,6 @@
 -- The walk gives packets back from their symbols.
 use Rattle.std.proofs.Common.{◌≡◌, ℕ, zero, suc, ◌+◌, ◌<◌, ◌≤◌, List, [], ◌∷◌, ◌++◌, length, replicate, Ok, sym, refl, ap, ◌∙◌, append_assoc, add-zero, arith, length-append, le-ltb, ne_eqb}
-use Rattle.std.specs.List.{AllByRecursion as All}
+use Rattle.std.specs.List.{AllByRecursion}
 use Rattle.std.proofs.lemmas.List.{take_at, drop_at}
 use Rattle.packet.specs.Packets.{Packet, WellFormed, longest_label, packet_symbols, symbols}
 use Rattle.packet.specs.Reading.{packet, end, filled, from_data, from_feed, size}
@@ -40,7 +40,7 @@ pub length_packet_symbols : (x : Packet) (p : ℕ) → length (packet_symbols x)
 length_packet_symbols x p = simp length-append (omega arith)
 
 -- The items of packets' symbols, from any place on.
-pub items_symbols : (p : ℕ) (ps : List Packet) (k : ℕ) → All WellFormed ps → items_from 0 p (symbols ps ++ replicate k 0) ≡ placed p ps
+pub items_symbols : (p : ℕ) (ps : List Packet) (k : ℕ) → AllByRecursion WellFormed ps → items_from 0 p (symbols ps ++ replicate k 0) ≡ placed p ps
 items_symbols p [] k w = items_zeros p k
 items_symbols p (x ∷ ps) k w =
     let rest : List ℕ = symbols ps ++ replicate k 0 in

@@ -1,12 +1,12 @@
 -- The laws of the walk.
 use Rattle.std.specs.Prelude.{◌≡◌, ℕ, List, ◌++◌, length, replicate, Ok}
-use Rattle.std.specs.List.{AllByRecursion as All}
+use Rattle.std.specs.List.{AllByRecursion}
 use Rattle.packet.specs.Packets.{Packet, Bytes, WellFormed, symbols}
 use Rattle.packet.specs.Items.{items, count_of, placed}
 
 -- A message that consists of well-formed packets, and bytes 00 for the rest.
 pub record Consists (message : List ℕ) (ps : List Packet) : Type 0 where
-  pub well_formed : All WellFormed ps
+  pub well_formed : AllByRecursion WellFormed ps
   pub fill : ℕ
   pub is : message ≡ symbols ps ++ replicate fill 0
 

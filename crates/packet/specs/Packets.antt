@@ -1,6 +1,6 @@
 -- Packets, and the symbols that they are sent as.
 use Rattle.std.specs.Prelude.{ℕ, ◌<◌, ◌≤◌, List, ◌∷◌, ◌++◌, length}
-use Rattle.std.specs.List.{flat_map, AllByRecursion as All}
+use Rattle.std.specs.List.{flat_map, AllByRecursion}
 
 -- A packet: the feed that it is from, its label, and its data as the body.
 pub record Packet : Type 0 where
@@ -10,7 +10,7 @@ pub record Packet : Type 0 where
 
 -- The bytes of a list are below 256.
 abbrev pub Bytes : List ℕ → Type 0
-Bytes xs = All (λ b. b < 256) xs
+Bytes xs = AllByRecursion (λ b. b < 256) xs
 
 -- The length of the longest label.
 abbrev pub longest_label : ℕ

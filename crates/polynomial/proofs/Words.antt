@@ -6,7 +6,7 @@ use Rattle.field.specs.Field.{Ops, power}
 use Rattle.field.specs.Polynomial.{value, Vanishes, Apart}
 use Rattle.field.proofs.Ring.{Lawful, ring, eq_of_sum, no_divisor, mul_assoc}
 use Rattle.polynomial.specs.Coefficients.{coeff, Nought}
-use Rattle.polynomial.specs.Sums.{All, Distinct, psum}
+use Rattle.polynomial.specs.Sums.{Each, Distinct, psum}
 use Rattle.polynomial.specs.Words.{distance, weight, Difference, noted, differences}
 use Rattle.polynomial.specs.Laws.{Distance}
 use Rattle.polynomial.proofs.Clauses.{values, power_suc}
@@ -40,14 +40,14 @@ module _ {K : Type 0} (F : Lawful K) where
   infixl 70 ◌⊗◌
   -- what holds of the differences, where one more may be noted
   module _ (a b : K) (d : Difference K) (ds : List (Difference K)) where
-    all_noted : (P : Difference K → Type 0) → ((a ≡ b → ⊥) → P d) → All P ds → All P (noted (F.ops.same a b) d ds)
+    all_noted : (P : Difference K → Type 0) → ((a ≡ b → ⊥) → P d) → Each P ds → Each P (noted (F.ops.same a b) d ds)
     all_noted P f h = go _ refl
       where
-        go : (t : Bool) → F.ops.same a b ≡ t → All P (noted t d ds)
+        go : (t : Bool) → F.ops.same a b ≡ t → Each P (noted t d ds)
         go true e = h
         go false e = (f (not_from_Decides (F.ops.same a b) (F.laws.sameness a b) e), h)
 
-    distinct_noted : (x : Difference K → K) → All (λ t. x t ≡ x d → ⊥) ds → Distinct x ds → Distinct x (noted (F.ops.same a b) d ds)
+    distinct_noted : (x : Difference K → K) → Each (λ t. x t ≡ x d → ⊥) ds → Distinct x ds → Distinct x (noted (F.ops.same a b) d ds)
     distinct_noted x f h = go _
       where
         go : (t : Bool) → Distinct x (noted t d ds)
@@ -87,7 +87,7 @@ module _ {K : Type 0} (F : Lawful K) where
         ∙ simp (values, power_suc, ring)
 
     -- the places of differences
-    pub places : (k : ℕ) (v w : List K) → All (λ d. (k ≤ d.place) × (d.place < k + length v)) (differences F.ops k v w)
+    pub places : (k : ℕ) (v w : List K) → Each (λ d. (k ≤ d.place) × (d.place < k + length v)) (differences F.ops k v w)
     unfolding differences
     places k [] w = tt
     places k (a ∷ v) [] = tt
@@ -105,15 +105,15 @@ module _ {K : Type 0} (F : Lawful K) where
         (λ d i e. let same : d.place ≡ k = apart d.place k (omega arith) (omega arith) e in omega arith) _ (places (suc k) v w))
         (distinct_locators n (suc k) apart v w (omega arith))
 
-    pub same_words : (base ≡ 𝟎 → ⊥) → (s k : ℕ) (v w : List K) → length v ≡ length w → All (λ d. magnitude s d ≡ 𝟎) (differences F.ops k v w) → v ≡ w
+    pub same_words : (base ≡ 𝟎 → ⊥) → (s k : ℕ) (v w : List K) → length v ≡ length w → Each (λ d. magnitude s d ≡ 𝟎) (differences F.ops k v w) → v ≡ w
     unfolding differences
     same_words some s k [] [] l h = refl
     same_words some s k [] (b ∷ w) l h = absurd (omega arith)
     same_words some s k (a ∷ v) [] l h = absurd (omega arith)
     same_words some s k (a ∷ v) (b ∷ w) l h = go _ refl h (same_words some s (suc k) v w (omega arith))
       where
-        go : (t : Bool) → F.ops.same a b ≡ t → All (λ d. magnitude s d ≡ 𝟎) (noted t (record { place = k; amount = a ⊕ b }) (differences F.ops (suc k) v w))
-            → (All (λ d. magnitude s d ≡ 𝟎) (differences F.ops (suc k) v w) → v ≡ w) → a ∷ v ≡ b ∷ w
+        go : (t : Bool) → F.ops.same a b ≡ t → Each (λ d. magnitude s d ≡ 𝟎) (noted t (record { place = k; amount = a ⊕ b }) (differences F.ops (suc k) v w))
+            → (Each (λ d. magnitude s d ≡ 𝟎) (differences F.ops (suc k) v w) → v ≡ w) → a ∷ v ≡ b ∷ w
         go true e h rest = ap₂ ◌∷◌ ((F.laws.sameness a b).0 e) (rest h)
         go false e h rest = ap₂ ◌∷◌ (eq_of_sum F a b (no_divisor F _ _ h.0 (power_not_zero F _ (power_not_zero F base some k) s))) (rest h.1)
 

@@ -3,7 +3,7 @@ use Rattle.std.specs.Prelude.{◌≡◌, ℕ, ◌+◌, ◌<◌, ◌≤◌, List,
 use Rattle.field.specs.Field.{Ops, power}
 use Rattle.field.specs.Polynomial.{Vanishes, Apart}
 use Rattle.polynomial.specs.Coefficients.{coeff, Same, Nought, plus, scale, times, crossed, shift, Degree, Remainder}
-use Rattle.polynomial.specs.Sums.{All, Distinct, psum}
+use Rattle.polynomial.specs.Sums.{Each, Distinct, psum}
 use Rattle.polynomial.specs.Words.{distance, weight}
 
 -- The operations coefficient by coefficient; that of a product is the sum of all p_i·q_j with i + j = n.
@@ -33,7 +33,7 @@ FewRoots {F} o = (n : ℕ) (f : ℕ → F) → Apart f n → (p : List F) → le
 abbrev pub PowerSums : {F : Type 0} → Ops F → Type 0
 PowerSums {F} o =
     (m : ℕ) (v x : ℕ → F) (ls : List ℕ) → length ls ≤ m → Distinct x ls → ((k : ℕ) → k < m → psum o v x ls k ≡ o.nought)
-    → All (λ l. v l ≡ o.nought) ls
+    → Each (λ l. v l ≡ o.nought) ls
 
 -- Words that vanish at c powers of a base in a row, from the exponent s on, where the powers of the base below their length differ:
 -- two of one length that lie at most c apart are the same, and one with at most c symbols other than zero is zero.

@@ -3,14 +3,14 @@ use Rattle.std.specs.Prelude.{ℕ, List, [], ◌∷◌, ◌≢◌}
 use Rattle.field.specs.Field.{Ops, power}
 
 -- P holds of each entry.
-abbrev pub All : {A : Type 0} → (A → Type 0) → List A → Type 0
-All P [] = Unit {0}
-All P (a ∷ ls) = P a × All P ls
+abbrev pub Each : {A : Type 0} → (A → Type 0) → List A → Type 0
+Each P [] = Unit {0}
+Each P (a ∷ ls) = P a × Each P ls
 
 -- The locators x of the entries all differ.
 abbrev pub Distinct : {K A : Type 0} → (A → K) → List A → Type 0
 Distinct x [] = Unit {0}
-Distinct x (b ∷ ls) = All (λ a. x a ≢ x b) ls × Distinct x ls
+Distinct x (b ∷ ls) = Each (λ a. x a ≢ x b) ls × Distinct x ls
 
 -- The power sum with exponent k: the sum of v(a)·x(a)^k over the entries.
 unfoldable pub psum : {K A : Type 0} → Ops K → (A → K) → (A → K) → List A → ℕ → K

@@ -11,8 +11,8 @@ shl_keeps : (k a b : ℕ) → bit_xor a b * 2 ^ k ≡ bit_xor (a * 2 ^ k) (b * 2
 shl_keeps k a b = sym (ap₂ bit_xor (sym (add-zero (a * 2 ^ k))) (sym (add-zero (b * 2 ^ k))) ∙ xor_block k a b 0 0 (pow_pos k) (pow_pos k) ∙ add-zero (bit_xor a b * 2 ^ k))
 
 -- two sums of two sums
-pub swap : (a b c d : ℕ) → bit_xor (bit_xor a b) (bit_xor c d) ≡ bit_xor (bit_xor a c) (bit_xor b d)
-swap a b c d =
+pub swap_middle : (a b c d : ℕ) → bit_xor (bit_xor a b) (bit_xor c d) ≡ bit_xor (bit_xor a c) (bit_xor b d)
+swap_middle a b c d =
     xor_assoc a b (bit_xor c d)
     ∙ ap (bit_xor a) (sym (xor_assoc b c d) ∙ ap (λ x. bit_xor x d) (xor_comm b c) ∙ xor_assoc c b d)
     ∙ sym (xor_assoc a c (bit_xor b d))
@@ -36,7 +36,7 @@ alpha_keeps a b =
     (ap (λ z. z % 2 ^ 8) (shl_keeps 1 a b) ∙ xor_mod (a * 2) (b * 2) 8)
     (ap (λ z. z % 2 * 0x87) (xor_shr a b 7) ∙ ap (λ z. z * 0x87) (xor_mod (a / 128) (b / 128) 1)
     ∙ bit_keeps 0x87 (a / 128 % 2) (b / 128 % 2) (omega arith) (omega arith))
-    ∙ swap ((a * 2) % 256) ((b * 2) % 256) ((a / 128 % 2) * 0x87) ((b / 128 % 2) * 0x87)
+    ∙ swap_middle ((a * 2) % 256) ((b * 2) % 256) ((a / 128 % 2) * 0x87) ((b / 128 % 2) * 0x87)
 
 pub scaled_keeps_left : (k a b c : ℕ) → scaled k (bit_xor a b) c ≡ bit_xor (scaled k a c) (scaled k b c)
 unfolding scaled
@@ -45,7 +45,7 @@ scaled_keeps_left (suc k) a b c =
     ap₂ bit_xor
     (ap (λ z. z * c) (xor_mod a b 1) ∙ bit_keeps c (a % 2) (b % 2) (omega arith) (omega arith))
     (ap (λ z. scaled k z (times_alpha c)) (xor_shr a b 1) ∙ scaled_keeps_left k (a / 2) (b / 2) (times_alpha c))
-    ∙ swap (a % 2 * c) (b % 2 * c) (scaled k (a / 2) (times_alpha c)) (scaled k (b / 2) (times_alpha c))
+    ∙ swap_middle (a % 2 * c) (b % 2 * c) (scaled k (a / 2) (times_alpha c)) (scaled k (b / 2) (times_alpha c))
 
 pub scaled_keeps_right : (k a b c : ℕ) → scaled k a (bit_xor b c) ≡ bit_xor (scaled k a b) (scaled k a c)
 unfolding scaled
@@ -54,7 +54,7 @@ scaled_keeps_right (suc k) a b c =
     ap₂ bit_xor
     (factor_keeps (a % 2) b c (omega arith))
     (ap (scaled k (a / 2)) (alpha_keeps b c) ∙ scaled_keeps_right k (a / 2) (times_alpha b) (times_alpha c))
-    ∙ swap (a % 2 * b) (a % 2 * c) (scaled k (a / 2) (times_alpha b)) (scaled k (a / 2) (times_alpha c))
+    ∙ swap_middle (a % 2 * b) (a % 2 * c) (scaled k (a / 2) (times_alpha b)) (scaled k (a / 2) (times_alpha c))
 
 pub left_keeps : (c : ℕ) → Additive (λ a. product a c)
 unfolding product

@@ -17,7 +17,7 @@ use Rattle.reception.specs.Laws.{altered, Damaged, Restores}
 use Rattle.reception.specs.declared.fault.ReceiveFault.TheVariants.{Block, MessageLength}
 use Rattle.reception.proofs.Lanes.{by_lanes}
 use Rattle.reception.proofs.Messages.{message_sent}
-use Rattle.reception.proofs.One.{same_message, one_answer}
+use Rattle.reception.proofs.One.{one_answer}
 
 -- The arguments have no fault.
 pub no_fault : (d : ℕ) (block before : List ℕ) → is_depth d ≡ true → length block ≡ block_length d → length before ≡ message_length d → argument_fault d block before ≡ None
