@@ -1,6 +1,6 @@
 //! Refusals as numbers, and verdicts as text.
 ghost use Rattle.std.specs.Prelude.{◌≡◌, Some};
-ghost use Rattle.block.specs.Verdicts.{number as number_of_lem, found, shown_found};
+ghost use Rattle.block.specs.Verdicts.{number as number_of, found, shown_found};
 
 use crate::fault::{BlockFault, Verdict};
 use std::fmt;
@@ -8,7 +8,7 @@ use std::fmt;
 impl BlockFault {
     /// The number of the refusal.
     pub fn number(self) -> u8
-        ensures { result ≡ number_of_lem self }
+        ensures { result ≡ number_of self }
     {
         match self {
             BlockFault::NoDepth => 13,

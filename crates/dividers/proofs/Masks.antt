@@ -7,7 +7,7 @@ use Rattle.power_form.specs.Arithmetic.{times_alpha, alpha_byte, product}
 use Rattle.power_form.specs.Bounds.{product_below}
 use Rattle.power_form.specs.ByteLaws.{product_comm}
 use Rattle.power_form.specs.Linear.{Additive, at_zero}
-use Rattle.power_form.specs.Products.{left_keeps, right_keeps, swap}
+use Rattle.power_form.specs.Products.{left_keeps, right_keeps, swap_middle}
 use Rattle.dual_form.specs.Dual.{squares, trace, dual_exponents, basis_sum, of_dual}
 use Rattle.dual_form.specs.Bytes.{trace_parity}
 use Rattle.dividers.specs.Bits.{parity_of, bits_of, basis, mask_of}
@@ -29,7 +29,7 @@ unfolding squares
 squares_keep zero a b ha hb = refl
 squares_keep (suc k) a b ha hb =
     ap (bit_xor (bit_xor a b)) (ap (squares k) (square_keeps a b ha hb) ∙ squares_keep k (product a a) (product b b) (product_below a a ha) (product_below b b hb))
-    ∙ swap a b (squares k (product a a)) (squares k (product b b))
+    ∙ swap_middle a b (squares k (product a a)) (squares k (product b b))
 
 pub trace_keeps : (a b : ℕ) → a < 256 → b < 256 → trace (bit_xor a b) ≡ bit_xor (trace a) (trace b)
 unfolding trace

@@ -1,8 +1,8 @@
 //! The generator in exponent form: the exponents of its coefficients, and their text.
 ghost use Rattle.std.specs.Prelude.{◌≡◌, ◌∷◌, ◌++◌, map, IfOk, Some, string_bytes};
-ghost use Rattle.generator.specs.Forms.{logarithm, number as number_of_lem};
+ghost use Rattle.generator.specs.Forms.{logarithm, number as number_of};
 ghost use Rattle.generator.specs.Generator.{exponents as listed_exponents};
-ghost use Rattle.generator.specs.Text.{shown, joined, line as LineOf};
+ghost use Rattle.generator.specs.Text.{shown, joined, line as line_of};
 
 use crate::expansion::{COEFFICIENTS, generator};
 use exponent_form::Logarithm;
@@ -17,7 +17,7 @@ fn in_exponent_form() -> [Logarithm; COEFFICIENTS]
 
 /// The exponent of an element; none of zero.
 fn exponent_of(element: Logarithm) -> Option<u8>
-    ensures { result ≡ number_of_lem element }
+    ensures { result ≡ number_of element }
 {
     match element {
         Logarithm::Star => None,
@@ -27,7 +27,7 @@ fn exponent_of(element: Logarithm) -> Option<u8>
 
 /// Writes down the exponents of the elements.
 fn write_exponents(numbers: &mut [Option<u8>; COEFFICIENTS], elements: &[Logarithm; COEFFICIENTS])
-    ensures { numbers.new ≡ map number_of_lem elements.now }
+    ensures { numbers.new ≡ map number_of elements.now }
 {
     for i in 0..COEFFICIENTS {
         numbers[i] = exponent_of(elements[i]);
@@ -75,7 +75,7 @@ fn words(heap: Global, exponents: &[Option<u8>; COEFFICIENTS]) -> Result<String,
 
 /// The exponents in one line, with one blank between them and a line feed last.
 fn line(heap: Global, exponents: &[Option<u8>; COEFFICIENTS]) -> Result<String, AllocError>
-    ensures { IfOk result (λ s. string_bytes s ≡ LineOf exponents.now) }
+    ensures { IfOk result (λ s. string_bytes s ≡ line_of exponents.now) }
 {
     let text = words(heap, exponents)?;
     format!(in heap; "{text}\n")
@@ -83,7 +83,7 @@ fn line(heap: Global, exponents: &[Option<u8>; COEFFICIENTS]) -> Result<String, 
 
 /// The exponents of the generator's coefficients in one line, that of the lowest power first.
 pub fn coefficients_line(heap: Global) -> Result<String, AllocError>
-    ensures { IfOk result (λ s. string_bytes s ≡ LineOf (map Some listed_exponents)) }
+    ensures { IfOk result (λ s. string_bytes s ≡ line_of (map Some listed_exponents)) }
 {
     let exponents = coefficient_exponents();
     line(heap, &exponents)
