@@ -11,8 +11,8 @@ use Rattle.counter.specs.Told.{RepliedToOther, ToldToLine}
 
 pub told_other : {E : Type 0} (n : ℕ) (line : List ℕ) (before : State) (f : Fault) → passed_over line ≡ false → (f ≡ Memory) ⊎ NoCall line
     → (r : Result Reply E) → IfOk r (RepliedToOther n f line) → IfOk r (λ reply. ToldToLine n line before reply before)
-told_other n line before f p no (Err e) h = tt
-told_other n line before f p no (Ok Nothing) (inl w) = absurd w.2
-told_other n line before f p no (Ok Nothing) (inr w) = absurd w.2
-told_other n line before f p no (Ok (Answer s)) h = (p, inr (f, no, h, refl))
-told_other n line before f p no (Ok (Refusal s)) h = (p, inr (f, no, h, refl))
+told_other n line before f p lacks (Err e) h = tt
+told_other n line before f p lacks (Ok Nothing) (inl w) = absurd w.2
+told_other n line before f p lacks (Ok Nothing) (inr w) = absurd w.2
+told_other n line before f p lacks (Ok (Answer s)) h = (p, inr (f, lacks, h, refl))
+told_other n line before f p lacks (Ok (Refusal s)) h = (p, inr (f, lacks, h, refl))
