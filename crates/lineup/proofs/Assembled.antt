@@ -1,13 +1,12 @@
 -- The lanes of what is assembled, and the whole text of a plan.
-use Rattle.std.proofs.Common.{◌≡◌, ℕ, zero, suc, ◌+◌, ◌-◌, ◌<◌, ◌≤◌, min, Bool, true, false, cond, eqb, List, [], ◌∷◌, ◌++◌, length, get_or, take, replicate, sym, refl, ap, ◌∙◌, subst, ap₂, ⊎_elim, arith}
+use Rattle.std.proofs.Common.{◌≡◌, ℕ, zero, suc, ◌+◌, ◌-◌, ◌<◌, ◌≤◌, min, Bool, true, false, cond, eqb, List, [], ◌++◌, length, get_or, take, replicate, sym, refl, ap, ◌∙◌, ap₂, ⊎_elim, arith}
 use lib.ListN.{length-replicate}
 use Rattle.std.proofs.lemmas.List.{append-nil, length-append, length-take, take_all, replicate-append-replicate, take-replicate}
 use Rattle.std.proofs.lemmas.Bool.{eqb-true, eqb-false, ne_eqb, cases_lt}
-use Rattle.bank.specs.Lanes.{Lanes, zeros, beside}
+use Rattle.bank.specs.Lanes.{zeros, beside}
 use Rattle.bank.specs.declared.pair.Pair.{Pair}
 use Rattle.rack.specs.declared.choice.Choice.{Choice}
-use Rattle.rack.specs.declared.kind.Kind.{Kind}
-use Rattle.rack.specs.declared.kind.Kind.TheVariants.{Table, Serial}
+use Rattle.rack.specs.declared.kind.Kind.TheVariants.{Table}
 use Rattle.rack.specs.declared.row.Rack.{Rack}
 use Rattle.lineup.specs.Built.{rack_lanes, assembly_lanes}
 use Rattle.lineup.specs.Kinds.{first_eight}

@@ -1,9 +1,8 @@
 -- Dividers that are listed as a text is read.
-use Rattle.std.proofs.Common.{◌≡◌, ℕ, ◌-◌, ◌<◌, ◌≤◌, List, ◌∷◌, ◌++◌, Some, None, Option, sym, ap, ◌∙◌, MatchOption}
-use Rattle.rack.specs.declared.kind.Kind.TheVariants.{Table, Serial}
+use Rattle.std.proofs.Common.{◌≡◌, ℕ, ◌-◌, ◌<◌, ◌≤◌, List, ◌∷◌, ◌++◌, Some, None, Option, ap, ◌∙◌, MatchOption}
 use Rattle.lineup.specs.declared.kinds.Kinds.{Kinds}
 use Rattle.lineup.specs.Kinds.{first_eight, listed, Listed}
-use Rattle.lineup.specs.Plans.{Plan, table, serial, tables, pair, holder, dividers_of, Begins, BeginsNone}
+use Rattle.lineup.specs.Plans.{table, serial, tables, pair, holder, dividers_of}
 use Rattle.lineup.proofs.Rows.{eight_more}
 use Rattle.lineup.proofs.Texts.{table_begins, serial_begins, tables_begin, holder_begins, pair_begins}
 

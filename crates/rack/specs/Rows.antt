@@ -1,6 +1,5 @@
 -- Banks of one lane in a row.
 use Rattle.std.specs.Prelude.{ℕ, List, [], map, take, slice_index_or}
-use Rattle.dual_form.specs.declared.element.Dual.{Dual}
 use Rattle.bank.specs.Lanes.{Lanes}
 
 -- The lane of each bank.

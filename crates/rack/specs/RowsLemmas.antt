@@ -1,9 +1,9 @@
 -- The lanes of banks in a row, one by one.
-use Rattle.std.specs.Prelude.{◌≡◌, ℕ, zero, suc, ◌+◌, ◌<◌, ◌≤◌, true, cond, ◌&&◌, ltb, List, [], ◌∷◌, map, length, get_or, take, set, Ok, Err, nat_lt, slice_index_or, slice_set, refl}
+use Rattle.std.specs.Prelude.{◌≡◌, ℕ, zero, suc, ◌+◌, ◌<◌, ◌≤◌, cond, ◌&&◌, ltb, List, [], ◌∷◌, length, get_or, take, set, Ok, Err, nat_lt, slice_index_or, slice_set}
 use Rattle.std.proofs.Math.Path.{sym, ap}
 use Rattle.std.proofs.Common.{◌∙◌, arith}
 use Rattle.std.proofs.Math.Seq.{take-set-lt}
-use Rattle.std.proofs.lemmas.List.{length-take, length-map, length-set, map-set, get_or-map, get_or-take, get_or-set_same, ext_get_or, take-map}
+use Rattle.std.proofs.lemmas.List.{length-take, length-map, map-set, get_or-map, get_or-take, get_or-set_same, ext_get_or, take-map}
 use Rattle.std.proofs.lemmas.List.Edits.{fill_by_more}
 use Rattle.std.proofs.lemmas.Bool.{lt-ltb}
 use Rattle.polynomial.specs.Coefficients.{coeff}

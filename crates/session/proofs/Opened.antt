@@ -3,7 +3,7 @@ use Rattle.std.proofs.Common.{◌≡◌, ℕ, true, List, [], ◌∷◌, is_some
 use Rattle.lineup.specs.Built.{built_lanes, built_copy, Builds, NoBank}
 use Rattle.lineup.specs.Plans.{table, plan_text}
 use Rattle.lineup.specs.declared.built.Built.{Built}
-use Rattle.session.specs.Sessions.{State, opened, AfterOpening}
+use Rattle.session.specs.Sessions.{State, AfterOpening}
 
 pub after_opening : (text : List ℕ) (before : State) (b : Built) → Builds text b
     → AfterOpening text before (record { is_open = true; holds = b.holds; lanes = built_lanes b; copy = built_copy b })

@@ -1,5 +1,5 @@
 use Rattle.std.proofs.Common.{◌≡◌, eqb, ◌++◌, length, get_or, replicate, sym, ap, ◌∙◌}
-use Rattle.bank.specs.Lanes.{zeros, all_cleared, held}
+use Rattle.bank.specs.Lanes.{zeros, all_cleared}
 use Rattle.lineup.specs.Built.{assembly_lanes}
 use Rattle.lineup.specs.Kinds.{first_eight, listed}
 use Rattle.lineup.specs.Plans.{dividers_of, lanes_of}

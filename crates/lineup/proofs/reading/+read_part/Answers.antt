@@ -1,4 +1,4 @@
-use Rattle.std.proofs.Common.{◌≡◌, ◌∷◌, ap, ◌∙◌, arith, rules}
+use Rattle.std.proofs.Common.{◌∷◌, ap, ◌∙◌, rules}
 use Rattle.lineup.specs.Plans.{dividers_of}
 use Rattle.lineup.proofs.Parts.{cases_both, listed_table, listed_serial, listed_tables, listed_holder, listed_pair}
 use Rattle.lineup.proofs.Texts.{no_text, no_first, holder_unopened, holder_empty, holder_unclosed, pair_empty, pair_unsplit, pair_half, pair_unclosed}

@@ -1,4 +1,4 @@
-use Rattle.std.proofs.Common.{◌≡◌, ◌<◌, length, arith, rules}
+use Rattle.std.proofs.Common.{rules}
 use Rattle.lineup.proofs.Texts.{taken_apart, no_bytes}
 use Rattle.lineup.proofs.reading.front.Goals as goal
 

@@ -1,6 +1,5 @@
-use Rattle.std.proofs.Common.{length, set, sym, ap, ◌∙◌, arith}
+use Rattle.std.proofs.Common.{◌∙◌, arith}
 use Rattle.std.proofs.lemmas.List.{length-set}
-use Rattle.bank.specs.Lanes.{all_cleared}
 use Rattle.rack.specs.RowsLemmas.{cleared_more, cleared_all}
 use Rattle.rack.proofs.lanes.clear_rows.Goals as goal
 

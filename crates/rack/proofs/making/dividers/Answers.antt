@@ -1,4 +1,4 @@
-use Rattle.std.proofs.Common.{◌≡◌, [], ◌∷◌, map, get_or, sym, refl, ap, ◌∙◌}
+use Rattle.std.proofs.Common.{map, sym, refl, ap}
 use Rattle.rack.specs.Rows.{row}
 use Rattle.rack.specs.Dividers.{is_table}
 use Rattle.rack.specs.declared.kind.Kind.TheVariants.{Table}
