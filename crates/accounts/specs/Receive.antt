@@ -1,30 +1,24 @@
 -- The line that tells what receiving a block came to.
-use Rattle.std.specs.Prelude.{◌≡◌, ℕ, List, ◌∷◌, ◌++◌, replicate, codes, decimal}
+use Rattle.std.specs.Prelude.{◌≡◌, ℕ, List, ◌∷◌, ◌++◌, replicate, Some, None, Option, codes, decimal}
 use Rattle.tokens.specs.Bytes.{shown_bytes}
+use Rattle.reception.specs.Faults.{lane_of, place_of, layer_name}
 use Rattle.reception.specs.Reception.{Answer, success, refused, Receives}
-use Rattle.reception.specs.declared.fault.Layer.{Layer}
-use Rattle.reception.specs.declared.fault.Layer.TheVariants as layer
 use Rattle.reception.specs.declared.fault.Refusal.{Refusal}
 use Rattle.reception.specs.declared.fault.Spot.{Spot}
 use Rattle.reception.specs.declared.fault.Spot.TheVariants as spot
 
--- The name of a layer.
-abbrev pub shown_layer : Layer → List ℕ
-shown_layer layer.Codeword = codes "codeword"
-shown_layer layer.Block = codes "block"
-shown_layer layer.Receiver = codes "receiver"
+-- A lane or a place, or `-` for none.
+abbrev pub or_dash : Option ℕ → List ℕ
+or_dash None = codes "-"
+or_dash (Some n) = decimal n
 
 -- The lane that a fault names, or `-`.
 abbrev pub shown_lane : Spot → List ℕ
-shown_lane spot.Nowhere = codes "-"
-shown_lane (spot.Lane l) = decimal l
-shown_lane (spot.Place p) = codes "-"
+shown_lane s = or_dash (lane_of s)
 
 -- The place that a fault names, or `-`.
 abbrev pub shown_place : Spot → List ℕ
-shown_place spot.Nowhere = codes "-"
-shown_place (spot.Lane l) = codes "-"
-shown_place (spot.Place p) = decimal p
+shown_place s = or_dash (place_of s)
 
 -- The counts of a success: wrong symbols and packets.
 abbrev pub shown_counts : (wrong packets : ℕ) → List ℕ
@@ -32,7 +26,7 @@ shown_counts wrong packets = codes "0 - - - wrong=" ++ (decimal wrong ++ (codes 
 
 -- The number, the layer, and the lane and place of a fault.
 abbrev pub shown_refusal : Refusal → List ℕ
-shown_refusal f = decimal f.number ++ (32 ∷ (shown_layer f.layer ++ (32 ∷ (shown_lane f.spot ++ (32 ∷ shown_place f.spot)))))
+shown_refusal f = decimal f.number ++ (32 ∷ (layer_name f.layer ++ (32 ∷ (shown_lane f.spot ++ (32 ∷ shown_place f.spot)))))
 
 -- Beside a fault nothing is counted.
 abbrev pub shown_answer : Answer → List ℕ

@@ -1,2 +1,1 @@
 pub mod NoArrivals
-pub mod Settings

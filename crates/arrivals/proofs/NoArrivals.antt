@@ -2,7 +2,7 @@
 use Rattle.std.proofs.Common.{◌≡◌, ℕ, ◌^◌, ◌<◌, ◌≤◌, List, ◌++◌, codes, decimal, refl, arith, rules}
 use Rattle.tokens.specs.Bytes.{shown_bytes, Bytes}
 use Rattle.tokens.specs.Words.{spaced, Plain}
-use Rattle.calls.proofs.Verbs.{told_word, verb_is}
+use Rattle.tokens.proofs.Verbs.{told_word, verb_is}
 use Rattle.arrivals.specs.declared.arrival.Arrival.TheVariants.{Receive, Next}
 use Rattle.arrivals.specs.Lines.{NoArrival}
 

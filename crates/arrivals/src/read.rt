@@ -1,6 +1,5 @@
 //! The request about a received block or message that a line is.
-ghost use Rattle.std.specs.Prelude.{◌≡◌, ◌⊎◌, MatchResult};
-ghost use Rattle.tokens.specs.declared.fault.Fault.TheVariants.{Memory};
+ghost use Rattle.tokens.specs.Reads.{Reads};
 ghost use Rattle.arrivals.specs.Lines.{written_arrival, NoArrival};
 
 use crate::arrival::Arrival;
@@ -10,7 +9,7 @@ use tokens::{Fault, Piece, word};
 
 /// The request that the line is written as.
 pub fn read_arrival(heap: Global, line: &str) -> Result<Arrival, Fault>
-    ensures { MatchResult result (λ q. line.now ≡ written_arrival q) (λ f. (f ≡ Memory) ⊎ NoArrival line.now) }
+    ensures { Reads written_arrival NoArrival line.now result }
 {
     let (verb, rest) = word(Piece {
         text: line,

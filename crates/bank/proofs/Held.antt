@@ -1,7 +1,7 @@
 -- Lanes that are copied as bytes, register by register, and put back.
-use Rattle.std.proofs.Common.{◌≡◌, ℕ, ◌+◌, ◌<◌, ◌≤◌, Bool, true, cond, List, [], ◌∷◌, ◌++◌, map, length, get_or, take, drop, set, replicate, Ok, Err, Result, sym, refl, ap, ◌∙◌, arith}
-use Rattle.std.proofs.lemmas.List.{take_more, take_more_set, take_all, drop_more, drop_all, set_at, set-set, map-set, get_or-map, get_or-set_same, append_assoc, append-nil, length-map, length-take, length-take-le, length-append, length-drop, take-replicate}
-use Rattle.std.proofs.lemmas.Bool.{lt-ltb}
+use Rattle.std.proofs.Common.{◌≡◌, ℕ, ◌+◌, ◌<◌, ◌≤◌, Bool, true, cond, List, [], ◌∷◌, ◌++◌, map, length, get_or, take, drop, set, replicate, Ok, Err, Result, sym, refl, ap, ap₂, ◌∙◌, ◌⊎◌, inl, inr, arith}
+use Rattle.std.proofs.lemmas.List.{take_more, take_more_set, take_all, drop_more, drop_all, set_at, set-set, map-set, get_or-map, get_or-set_same, append_assoc, append-nil, length-map, length-set, length-take, length-take-le, length-append, length-drop, take-replicate, take-append-le, map-append}
+use Rattle.std.proofs.lemmas.Bool.{lt-ltb, le-ltb, cases_lt}
 use Rattle.power_form.specs.Arithmetic.{times_alpha, alpha_byte, scaled, product}
 use Rattle.polynomial.specs.Coefficients.{coeff}
 use Rattle.dual_form.specs.Dual.{squares, trace, beta, dual_bits, to_dual}
@@ -10,7 +10,7 @@ use Rattle.dual_form.specs.declared.element.Dual.{Dual}
 use Rattle.dual_form.specs.DualLaws.{dual_equal, symbol_of}
 use Rattle.bank.specs.declared.fault.BankFault.{BankFault}
 use Rattle.bank.specs.declared.fault.BankFault.TheVariants.{NoSuchRegister}
-use Rattle.bank.specs.Lanes.{Lanes, place_there, zeros, all_cleared, placed, elements, held}
+use Rattle.bank.specs.Lanes.{Lanes, at, told, told_all, place_there, zeros, all_cleared, placed, elements, held}
 
 -- One more item copied.
 pub copied_more : {X : Type 0} (xs ys : List X) (i : ℕ) (d x : X) → i < length xs → i < length ys → take i xs ≡ take i ys → x ≡ get_or ys i d → take (i + 1) (set xs i x) ≡ take (i + 1) ys
@@ -23,17 +23,33 @@ there ls lane place h i = rw (lt-ltb lane (length ls) h) (lt-ltb place 32 i)
 pub read_value : (r : Result ℕ BankFault) (t : Bool) (v b : ℕ) → r ≡ cond t (Ok v) (Err NoSuchRegister) → t ≡ true → r ≡ Ok b → b ≡ v
 read_value r t v b p q e = cc
 
--- The byte of a register is that of the element which stands there.
-pub symbol_read : (rs : List Dual) (place b : ℕ) → b ≡ (coeff dual_ops rs place).byte → symbol b ≡ get_or rs place dual_ops.nought
-unfolding coeff
-symbol_read rs place b e = sym (symbol_of (get_or rs place dual_ops.nought) b (sym e))
+-- What was told of a register that was read.
+pub told_read : (ls : Lanes) (lane place b : ℕ) (r : Result ℕ BankFault) → r ≡ told ls lane place → r ≡ Ok b → place < 32 → (lane < length ls) × (b ≡ at ls lane place)
+told_read ls lane place b r told_is ok small = go (cases_lt lane (length ls))
+  where
+    go : (lane < length ls) ⊎ (length ls ≤ lane) → (lane < length ls) × (b ≡ at ls lane place)
+    go (inl h) = (h, read_value r (place_there ls lane place) (at ls lane place) b told_is (there ls lane place h small) ok)
+    go (inr h) = absurd (let none = rw (le-ltb lane (length ls) h) at told_is in cc)
 
--- One register more copied.
-pub row_more : (row : List ℕ) (rs : List Dual) (i b : ℕ) → i < length row → i < length rs → take i (map symbol row) ≡ take i rs
-    → b ≡ (coeff dual_ops rs i).byte → take (i + 1) (map symbol (set row i b)) ≡ take (i + 1) rs
-row_more row rs i b p q so_far e =
-    ap (take (i + 1)) (map-set symbol row i b)
-    ∙ copied_more (map symbol row) rs i dual_ops.nought (symbol b) (omega (arith, length-map row symbol)) q so_far (symbol_read rs i b e)
+-- One register more read.
+pub read_more : (bytes : List ℕ) (rs : List Dual) (i b : ℕ) → i < length bytes → i < length rs → take i bytes ≡ take i (map (λ x. x.byte) rs)
+    → b ≡ (coeff dual_ops rs i).byte → take (i + 1) (set bytes i b) ≡ take (i + 1) (map (λ x. x.byte) rs)
+unfolding coeff
+read_more bytes rs i b p q so_far e =
+    let byte : Dual → ℕ = λ x. x.byte in
+    copied_more bytes (map byte rs) i 0 b p (omega (arith, length-map rs byte)) so_far (e ∙ sym (get_or-map byte rs i dual_ops.nought 0 q))
+
+symbols_read : (rs : List Dual) → map symbol (map (λ x. x.byte) rs) ≡ rs
+symbols_read [] = refl
+symbols_read (x ∷ rs) = ap₂ ◌∷◌ (sym (symbol_of x x.byte refl)) (symbols_read rs)
+
+-- The row of a lane that was read.
+pub row_read : (ls : Lanes) (lane : ℕ) (row : List ℕ) (r : Result (List ℕ) BankFault) → r ≡ told_all ls lane → r ≡ Ok row → lane < length ls → map symbol row ≡ get_or ls lane []
+row_read ls lane row r told_is ok h =
+    let some = rw (lt-ltb lane (length ls) h) at told_is in
+    let bytes : List ℕ = map (λ x. x.byte) (get_or ls lane []) in
+    let same : row ≡ bytes = cc in
+    ap (map symbol) same ∙ symbols_read (get_or ls lane [])
 
 -- One lane more copied.
 pub copy_more : (copy : List (List ℕ)) (ls : Lanes) (i : ℕ) (row : List ℕ) → i < length copy → i < length ls → take i (elements copy) ≡ take i ls
@@ -43,9 +59,13 @@ copy_more copy ls i row p q so_far e =
     ap (take (i + 1)) (map-set (map symbol) copy i row)
     ∙ copied_more (map (map symbol) copy) ls i [] (map symbol row) (omega (arith, length-map copy (map symbol))) q so_far e
 
-pub held_all : (ls : Lanes) (copy : List (List ℕ)) → take (length ls) (elements copy) ≡ take (length ls) ls → held ls copy ≡ ls
-unfolding held
-held_all ls copy e = e ∙ take_all (length ls) ls (omega arith)
+-- Every lane copied into the first rows.
+pub held_all : (ls : Lanes) (rows rest : List (List ℕ)) (i : ℕ) → i ≡ length ls → length ls ≤ length rows → take i (elements rows) ≡ take i ls → held ls (rows ++ rest) ≡ ls
+unfolding held elements
+held_all ls rows rest i e long so_far =
+    ap (take (length ls)) (map-append (map symbol) rows rest)
+    ∙ take-append-le (length ls) (elements rows) (elements rest) (omega (arith, length-map rows (map symbol)))
+    ∙ ap (λ n. take n (elements rows)) (sym e) ∙ so_far ∙ take_all i ls (omega arith)
 
 -- One item more put back.
 pub spliced_more : {X : Type 0} (xs ys : List X) (i : ℕ) (d : X) → i < length xs → i < length ys → set (take i xs ++ drop i ys) i (get_or xs i d) ≡ take (i + 1) xs ++ drop (i + 1) ys
@@ -116,6 +136,17 @@ pub held_same : (ls ms : Lanes) (copy : List (List ℕ)) → length ls ≡ lengt
 unfolding held
 held_same ls ms copy e = ap (λ n. take n (elements copy)) e
 
-pub held_again : (ls : Lanes) (copy : List (List ℕ)) → length ls ≤ length copy → held (held ls copy) copy ≡ held ls copy
+pub held_cleared : (ls now : Lanes) (copy : List (List ℕ)) → now ≡ all_cleared ls → held now copy ≡ held ls copy
+held_cleared ls now copy e = held_same now ls copy (ap length e ∙ length-map ls (λ _. zeros))
+
+pub held_set : (ls now : Lanes) (lane : ℕ) (x : List Dual) (copy : List (List ℕ)) → now ≡ set ls lane x → held now copy ≡ held ls copy
+held_set ls now lane x copy e = held_same now ls copy (ap length e ∙ length-set ls lane x)
+
+take_again : {X : Type 0} (n : ℕ) (xs : List X) → take (length (take n xs)) xs ≡ take n xs
+take_again ℕ.zero xs = refl
+take_again (ℕ.suc n) [] = refl
+take_again (ℕ.suc n) (x ∷ xs) = ap (λ t. x ∷ t) (take_again n xs)
+
+pub held_restored : (ls now : Lanes) (copy : List (List ℕ)) → now ≡ held ls copy → held now copy ≡ held ls copy
 unfolding held
-held_again ls copy h = ap (λ n. take n (elements copy)) (length-take-le (length ls) (elements copy) (omega (arith, length_elements copy)))
+held_restored ls now copy e = ap (λ t. take (length t) (elements copy)) e ∙ take_again (length ls) (elements copy)

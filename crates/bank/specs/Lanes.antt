@@ -76,6 +76,10 @@ at ls lane place = (coeff dual_ops (slice_index_or ls lane []) place).byte
 abbrev pub told : Lanes → ℕ → ℕ → Result ℕ BankFault
 told ls lane place = cond (place_there ls lane place) (Ok (at ls lane place)) (Err NoSuchRegister)
 
+-- What a question for all registers of a lane is told: their bytes.
+abbrev pub told_all : Lanes → ℕ → Result (List ℕ) BankFault
+told_all ls lane = cond (lane_there ls lane) (Ok (map (λ x. x.byte) (slice_index_or ls lane []))) (Err NoSuchRegister)
+
 -- The lanes of two banks, the left one's first, of which the first 8 count.
 unfoldable pub beside : Lanes → Lanes → Lanes
 beside left right = take 8 (left ++ right)

@@ -1,3 +1,4 @@
 pub mod Lanes
 pub mod Claims
 pub mod Beside
+pub mod Kept

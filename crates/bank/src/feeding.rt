@@ -1,18 +1,8 @@
-//! Many symbols taken into one lane, and two banks fed alike.
-ghost use Rattle.std.specs.Prelude.{◌≡◌, ◌<◌, length};
-ghost use Rattle.bank.specs.Lanes.{answer as answered, answer_if, lane_there, all_fed, told};
+//! Many symbols taken into one lane, all registers of one read, and two banks fed alike.
+ghost use Rattle.std.specs.Prelude.{◌≡◌};
+ghost use Rattle.bank.specs.Lanes.{answer as answered, answer_if, lane_there, all_fed, told, told_all};
 
-use crate::{Bank, BankFault};
-
-/// Takes the symbols with these bytes into a lane that is there.
-fn feed<B: Bank>(bank: &mut B, lane: usize, bytes: &[u8])
-    requires { lane < length (B.Bank.lanes bank.old) }
-    ensures { B.Bank.lanes bank.new ≡ all_fed (B.Bank.lanes bank.old) lane bytes.now }
-{
-    for byte in bytes {
-        let _ = bank.take(lane, *byte);
-    }
-}
+use crate::{Bank, BankFault, REGISTERS};
 
 /// Takes the symbols with these bytes into a lane, in their order.
 pub fn take_all<B: Bank>(bank: &mut B, lane: usize, bytes: &[u8]) -> Result<(), BankFault>
@@ -22,8 +12,21 @@ pub fn take_all<B: Bank>(bank: &mut B, lane: usize, bytes: &[u8]) -> Result<(), 
     if lane >= bank.count() {
         return Err(BankFault::NoSuchRegister);
     }
-    feed(bank, lane, bytes);
+    for byte in bytes {
+        bank.take(lane, *byte)?;
+    }
     Ok(())
+}
+
+/// The bytes of all registers of a lane, R_0 first.
+pub fn read_all<B: Bank>(bank: &B, lane: usize) -> Result<[u8; REGISTERS], BankFault>
+    ensures { result ≡ told_all (B.Bank.lanes bank.now) lane }
+{
+    let mut bytes = [0; REGISTERS];
+    for (place, byte) in bytes.iter_mut().enumerate() {
+        *byte = bank.read(lane, place)?;
+    }
+    Ok(bytes)
 }
 
 /// Takes the same symbols into the same lane of two banks, and reads the same register of both: banks of equal lanes read alike and

@@ -1,26 +1,18 @@
 //! A bank with a copy of its registers beside it.
-ghost use Rattle.std.specs.Prelude.{◌≡◌, ◌<◌, [], map, length, slice_index_or, slice_set};
+ghost use Rattle.std.specs.Prelude.{◌≡◌, ◌<◌, map, length, slice_set};
 ghost use Rattle.dual_form.specs.DualForm.{symbol};
 ghost use Rattle.bank.specs.Lanes.{answer as answered, answer_if, lane_there, place_there, all_cleared, fed, placed, held};
+ghost use Rattle.bank.specs.Kept.{kept};
 ghost use Rattle.std.proofs.Common.{rules};
 
-use crate::{Bank, BankFault, LANES, Pair, REGISTERS};
+use crate::{Bank, BankFault, LANES, Pair, REGISTERS, read_all};
 
 /// A bank with a copy of its registers beside it.
 #[derive(Drop)]
 pub struct Holder<B: Bank> {
     bank: B,
+    // Rows for the most lanes that there are, since there is no heap on board; as many as the bank has lanes count.
     copy: [[u8; REGISTERS]; LANES],
-}
-
-/// Copies the registers of one lane.
-fn hold_lane<B: Bank>(bank: &B, lane: usize, row: &mut [u8; REGISTERS])
-    requires { lane < length (B.Bank.lanes bank.now) }
-    ensures { map symbol row.new ≡ slice_index_or (B.Bank.lanes bank.now) lane [] }
-{
-    for place in 0..REGISTERS {
-        row[place] = bank.read(lane, place).unwrap();
-    }
 }
 
 /// Puts the registers of one lane back.
@@ -28,103 +20,53 @@ fn restore_lane<B: Bank>(bank: &mut B, lane: usize, row: &[u8; REGISTERS])
     requires { lane < length (B.Bank.lanes bank.old) }
     ensures { B.Bank.lanes bank.new ≡ slice_set (B.Bank.lanes bank.old) lane (map symbol row.now) }
 {
-    for place in 0..REGISTERS {
-        let _ = bank.set(lane, place, row[place]);
+    for (place, byte) in row.iter().enumerate() {
+        let _ = bank.set(lane, place, *byte);
     }
-}
-
-/// A copy of zeros for a bank.
-fn zero_copy<B: Bank>(bank: &B) -> [[u8; REGISTERS]; LANES]
-    ensures { held (B.Bank.lanes bank.now) result ≡ all_cleared (B.Bank.lanes bank.now) }
-{
-    [[0; REGISTERS]; LANES]
-}
-
-/// How many lanes are copied or put back: all of them.
-fn all_lanes<B: Bank>(bank: &B) -> usize
-    ensures { result ≡ length (B.Bank.lanes bank.now) }
-{
-    bank.count()
 }
 
 /// Copies the registers of every lane.
+// a function beside `hold`: no proof covers a part of an array field that is lent as a slice
 fn hold_lanes<B: Bank>(bank: &B, copy: &mut [[u8; REGISTERS]; LANES])
     ensures { held (B.Bank.lanes bank.now) copy.new ≡ B.Bank.lanes bank.now }
 {
-    let count = all_lanes(bank);
-    for lane in 0..count {
-        hold_lane(bank, lane, &mut copy[lane]);
-    }
-}
-
-/// Puts the registers of every lane back.
-fn restore_lanes<B: Bank>(bank: &mut B, copy: &[[u8; REGISTERS]; LANES])
-    ensures lanes { B.Bank.lanes bank.new ≡ held (B.Bank.lanes bank.old) copy.now }
-    ensures copy { held (B.Bank.lanes bank.new) copy.now ≡ held (B.Bank.lanes bank.old) copy.now }
-{
-    let count = all_lanes(bank);
-    for lane in 0..count {
-        let row = copy[lane];
-        restore_lane(bank, lane, &row);
+    let rows = &mut copy[..bank.count()];
+    for (lane, row) in rows.iter_mut().enumerate() {
+        *row = read_all(bank, lane).unwrap();
     }
 }
 
 impl<B: Bank> Holder<B> {
     /// The bank with a copy that is zero.
+    #[tactic(auto, using(crate::proofs::Held::zero_held))]
     pub fn new(bank: B) -> Self
         ensures bank { result.bank ≡ bank }
-        ensures copy { held (B.Bank.lanes result.bank) result.copy ≡ all_cleared (B.Bank.lanes result.bank) }
+        ensures copy { kept B.Bank.lanes result ≡ all_cleared (B.Bank.lanes result.bank) }
     {
-        let copy = zero_copy(&bank);
-        Holder { bank, copy }
+        Holder {
+            bank,
+            copy: [[0; REGISTERS]; LANES],
+        }
     }
 
     /// Makes the copy equal to the registers.
     pub fn hold(&mut self)
         ensures lanes { B.Bank.lanes self.new.bank ≡ B.Bank.lanes self.old.bank }
-        ensures copy { held (B.Bank.lanes self.new.bank) self.new.copy ≡ B.Bank.lanes self.old.bank }
+        ensures copy { kept B.Bank.lanes self.new ≡ B.Bank.lanes self.old.bank }
     {
         hold_lanes(&self.bank, &mut self.copy);
     }
 
     /// Makes the registers equal to the copy.
     pub fn restore(&mut self)
-        ensures lanes { B.Bank.lanes self.new.bank ≡ held (B.Bank.lanes self.old.bank) self.old.copy }
-        ensures copy { held (B.Bank.lanes self.new.bank) self.new.copy ≡ held (B.Bank.lanes self.old.bank) self.old.copy }
+        ensures lanes { B.Bank.lanes self.new.bank ≡ kept B.Bank.lanes self.old }
+        ensures copy { kept B.Bank.lanes self.new ≡ kept B.Bank.lanes self.old }
     {
-        restore_lanes(&mut self.bank, &self.copy);
+        let count = self.bank.count();
+        for (lane, row) in self.copy[..count].iter().enumerate() {
+            restore_lane(&mut self.bank, lane, row);
+        }
     }
-}
-
-/// Clears the bank of a holder and leaves the copy.
-fn clear_bank<B: Bank>(holder: &mut Holder<B>)
-    ensures lanes { B.Bank.lanes holder.new.bank ≡ all_cleared (B.Bank.lanes holder.old.bank) }
-    ensures copy { held (B.Bank.lanes holder.new.bank) holder.new.copy ≡ held (B.Bank.lanes holder.old.bank) holder.old.copy }
-{
-    holder.bank.clear();
-}
-
-/// Takes a symbol into the bank of a holder and leaves the copy.
-fn take_into_bank<B: Bank>(holder: &mut Holder<B>, lane: usize, byte: u8) -> Result<(), BankFault>
-    ensures answer { answered result ≡ answer_if (lane_there (B.Bank.lanes holder.old.bank) lane) }
-    ensures after { B.Bank.lanes holder.new.bank ≡ fed (B.Bank.lanes holder.old.bank) lane byte }
-    ensures copy { held (B.Bank.lanes holder.new.bank) holder.new.copy ≡ held (B.Bank.lanes holder.old.bank) holder.old.copy }
-{
-    holder.bank.take(lane, byte)
-}
-
-/// Sets a register in the bank of a holder and leaves the copy.
-fn set_in_bank<B: Bank>(
-    holder: &mut Holder<B>,
-    lane: usize,
-    place: usize,
-    byte: u8,
-) -> Result<(), BankFault>
-    ensures answer { answered result ≡ answer_if (place_there (B.Bank.lanes holder.old.bank) lane place) }
-    ensures after { B.Bank.lanes holder.new.bank ≡ placed (B.Bank.lanes holder.old.bank) lane place byte }
-    ensures copy { held (B.Bank.lanes holder.new.bank) holder.new.copy ≡ held (B.Bank.lanes holder.old.bank) holder.old.copy }
-{
-    holder.bank.set(lane, place, byte)
 }
 
 impl<B: Bank> Bank for Holder<B> {
@@ -136,31 +78,34 @@ impl<B: Bank> Bank for Holder<B> {
         self.bank.count()
     }
 
+    #[tactic(auto, using(crate::proofs::Held::held_cleared))]
     fn clear(&mut self)
         ensures lanes { B.Bank.lanes self.new.bank ≡ all_cleared (B.Bank.lanes self.old.bank) }
-        ensures copy { held (B.Bank.lanes self.new.bank) self.new.copy ≡ held (B.Bank.lanes self.old.bank) self.old.copy }
+        ensures copy { kept B.Bank.lanes self.new ≡ kept B.Bank.lanes self.old }
     {
-        clear_bank(self);
+        self.bank.clear();
     }
 
+    #[tactic(auto, using(crate::proofs::Held::held_set))]
     fn take(&mut self, lane: usize, byte: u8) -> Result<(), BankFault>
         ensures answer { answered result ≡ answer_if (lane_there (B.Bank.lanes self.old.bank) lane) }
         ensures after { B.Bank.lanes self.new.bank ≡ fed (B.Bank.lanes self.old.bank) lane byte }
-        ensures copy { held (B.Bank.lanes self.new.bank) self.new.copy ≡ held (B.Bank.lanes self.old.bank) self.old.copy }
+        ensures copy { kept B.Bank.lanes self.new ≡ kept B.Bank.lanes self.old }
     {
-        take_into_bank(self, lane, byte)
+        self.bank.take(lane, byte)
     }
 
     fn read(&self, lane: usize, place: usize) -> Result<u8, BankFault> {
         self.bank.read(lane, place)
     }
 
+    #[tactic(auto, using(crate::proofs::Held::held_set))]
     fn set(&mut self, lane: usize, place: usize, byte: u8) -> Result<(), BankFault>
         ensures answer { answered result ≡ answer_if (place_there (B.Bank.lanes self.old.bank) lane place) }
         ensures after { B.Bank.lanes self.new.bank ≡ placed (B.Bank.lanes self.old.bank) lane place byte }
-        ensures copy { held (B.Bank.lanes self.new.bank) self.new.copy ≡ held (B.Bank.lanes self.old.bank) self.old.copy }
+        ensures copy { kept B.Bank.lanes self.new ≡ kept B.Bank.lanes self.old }
     {
-        set_in_bank(self, lane, place, byte)
+        self.bank.set(lane, place, byte)
     }
 }
 

@@ -11,17 +11,18 @@ ghost use Rattle.bank.specs.Claims.{Banks};
 ghost use Rattle.bank.specs.Lanes.{Lanes, Shaped, answer as answered, answer_if, lane_there, place_there, all_cleared, fed, placed, told};
 
 pub use fault::BankFault;
-pub use feeding::{read_alike, take_all};
+pub use feeding::{read_alike, read_all, take_all};
 pub use holder::{Holder, three_held};
 pub use pair::Pair;
 
 /// The number of registers in a lane.
-pub const REGISTERS: usize = 32;
+pub const REGISTERS: usize = code::CHECKS as usize;
 
 /// The most lanes that a bank has.
 pub const LANES: usize = 8;
 
 /// Lanes of registers, each of which takes symbols as a divider does.
+// A lane and a place stay two numbers: requests give them so, and no fact binds the one to the other.
 pub trait Bank {
     // the registers of each lane, R_0 first
     ghost lanes: { Self → Lanes };
@@ -53,6 +54,7 @@ pub trait Bank {
 
 /// A refused call leaves all as it was, and a lane that takes symbols after all were cleared holds their remainder: a theorem, with
 /// nothing to compute.
+#[tactic(auto, using(crate::proofs::Taken::banks))]
 pub fn banks_stand()
     ensures { Banks }
 {}

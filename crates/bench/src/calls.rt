@@ -1,30 +1,30 @@
 //! Calls on a bank with a copy beside it, and the lines that answer them.
 ghost use Rattle.std.specs.Prelude.{◌≡◌, ◌++◌, IfOk, string_bytes, codes, decimal};
-ghost use Rattle.bank.specs.Lanes.{answer as answered, number, all_cleared, fed, placed, held};
-ghost use Rattle.tokens.specs.Bytes.{two_digits};
-ghost use Rattle.bench.specs.Lines.{shown_register, bank_line as bank_line_of, take_line as take_line_of, set_line as set_line_of, read_line as read_line_of};
+ghost use Rattle.bank.specs.Kept.{kept};
+ghost use Rattle.bank.specs.Lanes.{answer as answered, number, all_cleared, fed, placed};
+ghost use Rattle.bench.specs.Lines.{bank_line as bank_line_of, take_line as take_line_of, set_line as set_line_of, read_line as read_line_of};
 
 use bank::{Bank, BankFault, Holder};
 use std::alloc::{AllocError, Global};
-use tokens::write_byte;
 
-/// The number of a refusal.
-pub(crate) fn refusal_number(fault: BankFault) -> u8
-    ensures { result ≡ number fault }
+/// The line of a word and the number of an answer: 0, or that of a refusal.
+fn answer_line(
+    heap: Global,
+    word: &str,
+    answer: Result<(), BankFault>,
+) -> Result<String, AllocError>
+    ensures { IfOk result (λ s. string_bytes s ≡ word.now ++ (codes " = " ++ decimal (answered answer))) }
 {
-    match fault {
-        BankFault::NoSuchRegister => 2,
-    }
+    let number = answer.err().map_or(0, BankFault::number);
+    format!(in heap; "{word} = {number}")
 }
 
-/// The number of an answer: 0, or that of a refusal.
-fn answer_number(answer: Result<(), BankFault>) -> u8
-    ensures { result ≡ answered answer }
+/// The line of a word and a refusal, with nothing told.
+pub(crate) fn refusal_line(heap: Global, word: &str, fault: BankFault) -> Result<String, AllocError>
+    ensures { IfOk result (λ s. string_bytes s ≡ word.now ++ (codes " = " ++ (decimal (number fault) ++ codes " -"))) }
 {
-    match answer {
-        Ok(()) => 0,
-        Err(fault) => refusal_number(fault),
-    }
+    let number = fault.number();
+    format!(in heap; "{word} = {number} -")
 }
 
 /// The line that tells of a bank with this name.
@@ -44,10 +44,9 @@ pub fn take_line<B: Bank>(
 ) -> Result<String, AllocError>
     ensures line { IfOk result (λ s. string_bytes s ≡ take_line_of (B.Bank.lanes holder.old.bank) lane) }
     ensures lanes { B.Bank.lanes holder.new.bank ≡ fed (B.Bank.lanes holder.old.bank) lane byte }
-    ensures copy { held (B.Bank.lanes holder.new.bank) holder.new.copy ≡ held (B.Bank.lanes holder.old.bank) holder.old.copy }
+    ensures copy { kept B.Bank.lanes holder.new ≡ kept B.Bank.lanes holder.old }
 {
-    let number = answer_number(holder.take(lane, byte));
-    format!(in heap; "take = {number}")
+    answer_line(heap, "take", holder.take(lane, byte))
 }
 
 /// Puts the symbol with this byte into one register.
@@ -60,39 +59,13 @@ pub fn set_line<B: Bank>(
 ) -> Result<String, AllocError>
     ensures line { IfOk result (λ s. string_bytes s ≡ set_line_of (B.Bank.lanes holder.old.bank) lane place) }
     ensures lanes { B.Bank.lanes holder.new.bank ≡ placed (B.Bank.lanes holder.old.bank) lane place byte }
-    ensures copy { held (B.Bank.lanes holder.new.bank) holder.new.copy ≡ held (B.Bank.lanes holder.old.bank) holder.old.copy }
+    ensures copy { kept B.Bank.lanes holder.new ≡ kept B.Bank.lanes holder.old }
 {
-    let number = answer_number(holder.set(lane, place, byte));
-    format!(in heap; "set = {number}")
-}
-
-/// The line for a byte that was read.
-fn byte_line(heap: Global, byte: u8) -> Result<String, AllocError>
-    ensures { IfOk result (λ s. string_bytes s ≡ codes "read = 0 " ++ two_digits byte) }
-{
-    let mut text = String::from_str(heap, "read = 0 ")?;
-    write_byte(&mut text, byte)?;
-    Ok(text)
-}
-
-/// The line for a register that is not there.
-fn refused_line(heap: Global, number: u8) -> Result<String, AllocError>
-    ensures { IfOk result (λ s. string_bytes s ≡ codes "read = " ++ (decimal number ++ codes " -")) }
-{
-    format!(in heap; "read = {number} -")
-}
-
-/// The line for what was told of a register.
-fn told_line(heap: Global, told: Result<u8, BankFault>) -> Result<String, AllocError>
-    ensures { IfOk result (λ s. string_bytes s ≡ codes "read = " ++ shown_register told) }
-{
-    match told {
-        Ok(byte) => byte_line(heap, byte),
-        Err(fault) => refused_line(heap, refusal_number(fault)),
-    }
+    answer_line(heap, "set", holder.set(lane, place, byte))
 }
 
 /// Reads one register.
+#[tactic(auto, using(crate::proofs::Hex::byte_shown))]
 pub fn read_line<B: Bank>(
     heap: Global,
     bank: &B,
@@ -101,14 +74,18 @@ pub fn read_line<B: Bank>(
 ) -> Result<String, AllocError>
     ensures { IfOk result (λ s. string_bytes s ≡ read_line_of (B.Bank.lanes bank.now) lane place) }
 {
-    told_line(heap, bank.read(lane, place))
+    match bank.read(lane, place) {
+        Ok(byte) => format!(in heap; "read = 0 {byte:02x}"),
+        Err(fault) => refusal_line(heap, "read", fault),
+    }
 }
 
 /// Makes every register zero.
+// This and the two below differ in the method that they call: with it as a closure, each caller would state what the method does.
 pub fn clear_line<B: Bank>(heap: Global, holder: &mut Holder<B>) -> Result<String, AllocError>
     ensures line { IfOk result (λ s. string_bytes s ≡ codes "clear") }
     ensures lanes { B.Bank.lanes holder.new.bank ≡ all_cleared (B.Bank.lanes holder.old.bank) }
-    ensures copy { held (B.Bank.lanes holder.new.bank) holder.new.copy ≡ held (B.Bank.lanes holder.old.bank) holder.old.copy }
+    ensures copy { kept B.Bank.lanes holder.new ≡ kept B.Bank.lanes holder.old }
 {
     holder.clear();
     String::from_str(heap, "clear")
@@ -118,7 +95,7 @@ pub fn clear_line<B: Bank>(heap: Global, holder: &mut Holder<B>) -> Result<Strin
 pub fn hold_line<B: Bank>(heap: Global, holder: &mut Holder<B>) -> Result<String, AllocError>
     ensures line { IfOk result (λ s. string_bytes s ≡ codes "hold") }
     ensures lanes { B.Bank.lanes holder.new.bank ≡ B.Bank.lanes holder.old.bank }
-    ensures copy { held (B.Bank.lanes holder.new.bank) holder.new.copy ≡ B.Bank.lanes holder.old.bank }
+    ensures copy { kept B.Bank.lanes holder.new ≡ B.Bank.lanes holder.old.bank }
 {
     holder.hold();
     String::from_str(heap, "hold")
@@ -127,8 +104,8 @@ pub fn hold_line<B: Bank>(heap: Global, holder: &mut Holder<B>) -> Result<String
 /// Makes the registers equal to the copy.
 pub fn restore_line<B: Bank>(heap: Global, holder: &mut Holder<B>) -> Result<String, AllocError>
     ensures line { IfOk result (λ s. string_bytes s ≡ codes "restore") }
-    ensures lanes { B.Bank.lanes holder.new.bank ≡ held (B.Bank.lanes holder.old.bank) holder.old.copy }
-    ensures copy { held (B.Bank.lanes holder.new.bank) holder.new.copy ≡ held (B.Bank.lanes holder.old.bank) holder.old.copy }
+    ensures lanes { B.Bank.lanes holder.new.bank ≡ kept B.Bank.lanes holder.old }
+    ensures copy { kept B.Bank.lanes holder.new ≡ kept B.Bank.lanes holder.old }
 {
     holder.restore();
     String::from_str(heap, "restore")

@@ -1,5 +1,5 @@
 -- Steps of the search for the first broken lane and root, and what its answer says of all lanes.
-use Rattle.std.proofs.Common.{◌≡◌, ℕ, zero, suc, ◌+◌, ◌-◌, ◌<◌, ◌≤◌, Bool, true, false, cond, not, eqb, List, length, Some, None, Option, sym, refl, ap, ◌∙◌, subst, ap₂, ⊎_elim, add-one, arith, eq-eqb, eqb-true}
+use Rattle.std.proofs.Common.{◌≡◌, ℕ, zero, suc, ◌+◌, ◌-◌, ◌<◌, ◌≤◌, Bool, true, false, cond, not, eqb, List, length, Some, None, Option, sym, refl, ap, ◌∙◌, subst, ⊎_elim, add-one, arith, eq-eqb, eqb-true}
 use Rattle.std.proofs.lemmas.Bool.{cases_lt, false≢true}
 use Rattle.field.specs.First.{first_of}
 use Rattle.field.proofs.Firsts.{first_found, first_passed, none_passes, none_found, IsFirst, is_first}
@@ -8,7 +8,7 @@ use Rattle.dual_form.specs.DualForm.{dual_ops}
 use Rattle.dual_form.specs.DualLaws.{dual_laws}
 use Rattle.block.specs.Depths.{is_depth, block_length}
 use Rattle.block.specs.Lanes.{word}
-use Rattle.block.specs.Verdicts.{number, Found, all_zero, broken, Answer, checked, refused, sum_at, is_broken, broken_root, broken_or, first_broken, check_of, lanes_are, lanes_refused, lanes_of, First, Accepts}
+use Rattle.block.specs.Verdicts.{number, Found, all_zero, broken, Answer, checked, refused, sum_at, is_broken, broken_root, broken_or, first_broken, check_of, First, Accepts}
 use Rattle.block.specs.declared.fault.BlockFault.TheVariants.{NoDepth, BlockLength}
 use Rattle.block.proofs.Places.{length_word}
 
@@ -67,7 +67,7 @@ module _ (d : ℕ) (block : List ℕ) where
     where
       at : (r : Option ℕ) → broken_root d block l ≡ r → broken_or l r (first_broken d block k (suc l)) ≡ all_zero → (first_broken d block k (suc l) ≡ all_zero → suc l ≤ i → Codeword dual_ops telemetry (word d block i)) → Codeword dual_ops telemetry (word d block i)
       at None here e more = ⊎_elim (λ later. more e later) (λ h. let same : l ≡ i = omega arith in subst (λ n. Codeword dual_ops telemetry (word d block n)) same (lane_sound l here)) (cases_lt l i)
-      at (Some j) here e more = absurd (let z : ◌≡◌ {A = ℕ} 0 1 = cc in omega arith)
+      at (Some j) here e more = cc
 
   sound_all : (k l : ℕ) → ((i : ℕ) → l ≤ i → i < l + k → Codeword dual_ops telemetry (word d block i)) → first_broken d block k l ≡ all_zero
   unfolding first_broken
@@ -85,7 +85,7 @@ module _ (d : ℕ) (block : List ℕ) where
 
   found_among : (k l m j : ℕ) → first_broken d block k l ≡ broken m j → FoundAmong k l m j
   unfolding first_broken
-  found_among zero l m j e = absurd (let z : ◌≡◌ {A = ℕ} 0 1 = cc in omega arith)
+  found_among zero l m j e = cc
   found_among (suc k) l m j e = at (broken_root d block l) refl e (λ later. found_among k (suc l) m j later)
     where
       at : (r : Option ℕ) → broken_root d block l ≡ r → broken_or l r (first_broken d block k (suc l)) ≡ broken m j → (first_broken d block k (suc l) ≡ broken m j → FoundAmong k (suc l) m j) → FoundAmong (suc k) l m j
@@ -145,7 +145,7 @@ module _ (d : ℕ) (block : List ℕ) where
   }
     where
       never : {f : Found} → refused (number BlockLength) ≡ checked f → ⊥
-      never e = let z : ◌≡◌ {A = ℕ} 0 1 = cc in omega arith
+      never e = cc
   told false long known length_is = record {
     only_codewords = λ e. absurd (never e);
     every_codeword = λ s. absurd (false≢true (sym known ∙ s.depth));
@@ -153,24 +153,8 @@ module _ (d : ℕ) (block : List ℕ) where
   }
     where
       never : {f : Found} → refused (number NoDepth) ≡ checked f → ⊥
-      never e = let z : ◌≡◌ {A = ℕ} 0 1 = cc in omega arith
+      never e = cc
 
   pub accepts : (a : Answer) → a ≡ check_of block d → Accepts block d a
   unfolding answer_as
   accepts a e = subst (Accepts block d) (sym e) (told (is_depth d) (eqb (length block) (block_length d)) refl refl)
-
--- A depth that was given is the one that was asked for.
-pub depth_told : (n d : ℕ) → lanes_are n ≡ lanes_of d → (n ≡ d) × (is_depth d ≡ true)
-depth_told n d e = at (is_depth d) e
-  where
-    at : (b : Bool) → lanes_are n ≡ cond b (lanes_are d) (lanes_refused (number NoDepth)) → (n ≡ d) × (b ≡ true)
-    at true e = (cc, refl)
-    at false e = absurd (let z : ◌≡◌ {A = ℕ} 0 1 = cc in omega arith)
-
--- The answer where depth and length are right.
-pub check_told : (block : List ℕ) (d n : ℕ) (f : Found) → lanes_are n ≡ lanes_of d → length block ≡ block_length n → f ≡ first_broken n block n 0 → checked f ≡ check_of block d
-check_told block d n f depth long found =
-    let told = depth_told n d depth in
-    let long' : length block ≡ block_length d = long ∙ ap block_length told.0 in
-    ap checked (found ∙ ap (λ k. first_broken k block k 0) told.0)
-    ∙ sym (ap₂ (λ a b. cond a (cond b (checked (first_broken d block d 0)) (refused (number BlockLength))) (refused (number NoDepth))) told.1 (eq-eqb (length block) (block_length d) long'))

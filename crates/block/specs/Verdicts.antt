@@ -7,6 +7,7 @@ use Rattle.dual_form.specs.DualForm.{dual_ops}
 use Rattle.dual_form.specs.declared.element.Dual.{Dual}
 use Rattle.block.specs.Depths.{is_depth, block_length}
 use Rattle.block.specs.Lanes.{word}
+use Rattle.block.specs.declared.depth.Block.{Block}
 use Rattle.block.specs.declared.depth.Depth.{Depth}
 use Rattle.block.specs.declared.fault.BlockFault.{BlockFault}
 use Rattle.block.specs.declared.fault.BlockFault.TheVariants.{NoDepth, BlockLength}
@@ -52,6 +53,19 @@ lanes_told (Err f) = lanes_refused (number f)
 
 abbrev pub lanes_of : ℕ → Told
 lanes_of d = cond (is_depth d) (lanes_are d) (lanes_refused (number NoDepth))
+
+-- The bytes and the number of lanes of a block, or why there is none.
+pub data BlockTold : Type 0 where
+  block_is : (bytes : List ℕ) (lanes : ℕ) → BlockTold
+  block_refused : BlockFault → BlockTold
+
+abbrev pub block_told : Result Block BlockFault → BlockTold
+block_told (Ok b) = block_is b.bytes.now b.depth.lanes
+block_told (Err f) = block_refused f
+
+-- First the depth, then the length.
+abbrev pub block_of : List ℕ → ℕ → BlockTold
+block_of bytes d = cond (is_depth d) (cond (length bytes == block_length d) (block_is bytes d) (block_refused BlockLength)) (block_refused NoDepth)
 
 -- The sum of the lane l at γ^j.
 unfoldable pub sum_at : ℕ → List ℕ → ℕ → ℕ → Dual

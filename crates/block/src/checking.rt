@@ -1,36 +1,25 @@
 //! The check of a block: whether every sum of every lane is zero.
-ghost use Rattle.std.specs.Prelude.{◌≡◌, length};
-ghost use Rattle.field.specs.Polynomial.{value};
-ghost use Rattle.dual_form.specs.DualForm.{dual_ops};
-ghost use Rattle.block.specs.Depths.{block_length};
+ghost use Rattle.std.specs.Prelude.{◌≡◌};
 ghost use Rattle.block.specs.Verdicts.{answer, found, first_broken as first_broken_of, check_of, Accepts};
 
-use crate::depth::Depth;
+use crate::depth::Block;
 use crate::fault::{BlockFault, Verdict};
-use crate::lanes::{depth_of, lane_word};
-use code::{CHECKS, FIRST_ROOT, SYMBOLS, gamma, gamma_to};
+use code::{CHECKS, FIRST_ROOT, gamma, gamma_to};
 use dual_form::Dual;
-use field::{Field, evaluate};
-
-/// Whether the sum at x is zero.
-fn sum_is_zero(symbols: &[Dual], x: Dual) -> bool
-    ensures { result ≡ dual_ops.same (value dual_ops symbols.now x) dual_ops.nought }
-{
-    evaluate(symbols, x).same(Dual::zero())
-}
+use field::{Field, is_root};
 
 /// The first lane and root whose sum is not zero, lanes first.
-fn first_broken(block: &[u8], depth: Depth) -> Verdict
-    requires { length block.now ≡ block_length depth.lanes }
-    ensures { found result ≡ first_broken_of depth.lanes block.now depth.lanes 0 }
+fn first_broken(block: &Block) -> Verdict
+    ensures { found result ≡ first_broken_of block.now.depth.lanes block.now.bytes.now block.now.depth.lanes 0 }
 {
     let step: Dual = gamma();
+    // Two loops left by one label: it is the first lane and, in it, the first root that is told.
     'lanes: {
-        for lane in 0..depth.lanes {
-            let symbols = lane_word(block, depth, lane);
+        for lane in 0..block.depth.lanes {
+            let symbols = block.word(lane);
             let mut x: Dual = gamma_to(FIRST_ROOT);
             for root in FIRST_ROOT..FIRST_ROOT + CHECKS {
-                if !sum_is_zero(&symbols, x) {
+                if !is_root(&symbols, x) {
                     break 'lanes Verdict::Broken { lane, root };
                 }
                 x = step.times(x);
@@ -45,11 +34,8 @@ pub fn check(block: &[u8], depth: usize) -> Result<Verdict, BlockFault>
     ensures verdict { answer result ≡ check_of block.now depth }
     ensures accepts { Accepts block.now depth (answer result) }
 {
-    let depth = depth_of(depth)?;
-    if block.len() != SYMBOLS * depth.lanes {
-        return Err(BlockFault::BlockLength);
-    }
-    Ok(first_broken(block, depth))
+    let block = Block::new(block, depth)?;
+    Ok(first_broken(&block))
 }
 
 #[cfg(test)]

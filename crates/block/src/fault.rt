@@ -10,6 +10,7 @@ pub enum BlockFault {
 }
 
 /// What a check finds.
+// An enum of its own and no Option: it has a text of its own, and answers name both cases.
 #[derive(Clone, Copy, Debug, PartialEq, Eq)]
 pub enum Verdict {
     /// Every sum is zero: each lane is a codeword.

@@ -1,36 +1,61 @@
-//! The depths that there are, and the lanes of a block as polynomials.
-ghost use Rattle.std.specs.Prelude.{◌≡◌, ◌<◌, length};
-ghost use Rattle.block.specs.Depths.{is_depth, block_length};
-ghost use Rattle.block.specs.Lanes.{word, Interleaved};
-ghost use Rattle.block.specs.Verdicts.{lanes_told, lanes_of};
+//! The depths that there are, the blocks of a depth, and their lanes as polynomials.
+ghost use Rattle.std.specs.Prelude.{◌≡◌, ◌<◌};
+ghost use Rattle.block.specs.Lanes.{word, lane_of, Interleaved};
+ghost use Rattle.block.specs.Verdicts.{lanes_told, lanes_of, block_told, block_of};
 
-use crate::depth::Depth;
+use crate::depth::{Block, Depth};
 use crate::fault::BlockFault;
 use code::SYMBOLS;
 use dual_form::Dual;
+use std::array;
 
 /// The depth with this number of lanes, if there is one.
-pub fn depth_of(lanes: usize) -> Result<Depth, BlockFault>
-    ensures { lanes_told result ≡ lanes_of lanes }
-{
-    if matches!(lanes, 1..=5 | 8) {
-        Ok(Depth { lanes })
-    } else {
-        Err(BlockFault::NoDepth)
+impl TryFrom<usize> for Depth {
+    type Error = BlockFault;
+
+    ghost try_from_gives = { λ lanes r. lanes_told r ≡ lanes_of lanes };
+
+    fn try_from(lanes: usize) -> Result<Depth, BlockFault> {
+        if matches!(lanes, 1..=5 | 8) {
+            Ok(Depth { lanes })
+        } else {
+            Err(BlockFault::NoDepth)
+        }
     }
 }
 
-/// The lane's symbols C_0 to C_254.
-pub(crate) fn lane_word(block: &[u8], depth: Depth, lane: usize) -> [Dual; SYMBOLS]
-    requires inside { lane < depth.lanes }
-    requires long { length block.now ≡ block_length depth.lanes }
-    ensures { result ≡ word depth.lanes block.now lane }
-{
-    let mut symbols = [Dual::new(0); SYMBOLS];
-    for k in 0..SYMBOLS {
-        symbols[k] = Dual::new(block[(SYMBOLS - 1 - k) * depth.lanes + lane]);
+impl<'a> Block<'a> {
+    /// The block of these bytes, if there is such a depth and they are as many as it has.
+    pub fn new(bytes: &'a [u8], depth: usize) -> Result<Block<'a>, BlockFault>
+        ensures { block_told result ≡ block_of bytes.now depth }
+    {
+        let depth = Depth::try_from(depth)?;
+        if bytes.len() != SYMBOLS * depth.lanes {
+            return Err(BlockFault::BlockLength);
+        }
+        Ok(Block { bytes, depth })
     }
-    symbols
+
+    /// The bytes of a lane in the order in which they are sent, if there is such a lane.
+    pub fn lane(&self, lane: usize) -> Option<[u8; SYMBOLS]>
+        ensures { result ≡ lane_of self.now.depth.lanes self.now.bytes.now lane }
+    {
+        if lane >= self.depth.lanes {
+            return None;
+        }
+        Some(array::from_fn(|i| self.bytes[i * self.depth.lanes + lane]))
+    }
+
+    /// The lane's symbols C_0 to C_254.
+    // That there is such a lane is asked of the two loops over lanes: a type for a lane's number would have to hold the block.
+    pub(crate) fn word(&self, lane: usize) -> [Dual; SYMBOLS]
+        requires { lane < self.now.depth.lanes }
+        ensures { result ≡ word self.now.depth.lanes self.now.bytes.now lane }
+    {
+        let mut symbols = self.lane(lane).unwrap().map(Dual::new);
+        symbols.reverse();
+        symbols
+    }
 }
 
 /// Where each byte of a block belongs: a theorem, with nothing to compute.

@@ -8,6 +8,6 @@ mod lanes;
 mod shown;
 
 pub use checking::check;
-pub use depth::Depth;
+pub use depth::{Block, Depth};
 pub use fault::{BlockFault, Verdict};
-pub use lanes::{depth_of, interleaving_stands};
+pub use lanes::interleaving_stands;

@@ -17,17 +17,14 @@ impl BlockFault {
     }
 }
 
+// Written out, since clauses read `output`.
 impl fmt::Display for Verdict {
     ghost output = { λ v. Some (shown_found (found v)) };
 
     fn fmt<W: fmt::Write>(&self, f: &mut fmt::Formatter<W>) -> fmt::Result {
         match self {
             Verdict::Codewords => f.write_str("all"),
-            Verdict::Broken { lane, root } => {
-                let lane = *lane;
-                let root = *root;
-                write!(f, "{lane} {root}")
-            }
+            Verdict::Broken { lane, root } => write!(f, "{lane} {root}"),
         }
     }
 }

@@ -1,4 +1,2 @@
-pub mod Exits
-pub mod Indices
+pub mod Lanes
 pub mod NoCalls
-pub mod Verbs

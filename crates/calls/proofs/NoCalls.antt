@@ -4,7 +4,7 @@ use Rattle.tokens.specs.Bytes.{two_digits}
 use Rattle.tokens.specs.Words.{spaced, Plain}
 use Rattle.calls.specs.declared.call.Call.TheVariants.{Bank, Take, Read, Set, Clear, Hold, Restore, Regs, End}
 use Rattle.calls.specs.Lines.{NoCall, NotBare}
-use Rattle.calls.proofs.Verbs.{told_word, verb_is, not_alone}
+use Rattle.tokens.proofs.Verbs.{told_word, verb_is, not_alone}
 
 -- a text behind a verb that has no word, `level=0` and a plan
 pub no_bank : (t : List ℕ) → ((id plan : List ℕ) → Plain id → t ≡ spaced id (spaced (codes "level=0") plan) → ⊥) → NoCall (spaced (codes "bank") t)

@@ -1,2 +1,1 @@
-pub mod Indices
 pub mod Lines

@@ -1,6 +1,5 @@
 //! The call that a line is.
-ghost use Rattle.std.specs.Prelude.{◌≡◌, ◌⊎◌, MatchResult};
-ghost use Rattle.tokens.specs.declared.fault.Fault.TheVariants.{Memory};
+ghost use Rattle.tokens.specs.Reads.{Reads};
 ghost use Rattle.calls.specs.Lines.{written_call, NoCall, NotBare};
 
 use crate::call::Call;
@@ -11,7 +10,7 @@ use tokens::{Fault, Piece, word};
 /// The call that is a verb with more behind it.
 fn worded(heap: Global, line: &str) -> Result<Call, Fault>
     requires { NotBare line.now }
-    ensures { MatchResult result (λ q. line.now ≡ written_call q) (λ f. (f ≡ Memory) ⊎ NoCall line.now) }
+    ensures { Reads written_call NoCall line.now result }
 {
     let (verb, rest) = word(Piece {
         text: line,
@@ -29,7 +28,7 @@ fn worded(heap: Global, line: &str) -> Result<Call, Fault>
 
 /// The call that the line is written as.
 pub fn read_call(heap: Global, line: &str) -> Result<Call, Fault>
-    ensures { MatchResult result (λ q. line.now ≡ written_call q) (λ f. (f ≡ Memory) ⊎ NoCall line.now) }
+    ensures { Reads written_call NoCall line.now result }
 {
     match line {
         "clear" => Ok(Call::Clear),

@@ -1,32 +1,16 @@
 //! The call of each verb, from the text behind the verb.
-ghost use Rattle.std.specs.Prelude.{◌≡◌, ℕ, ◌^◌, ◌<◌, ◌⊎◌, List, codes, decimal, MatchResult};
-ghost use Rattle.tokens.specs.declared.fault.Fault.TheVariants.{Memory};
+ghost use Rattle.std.specs.Prelude.{codes};
+ghost use Rattle.tokens.specs.Reads.{Reads};
 ghost use Rattle.tokens.specs.Words.{spaced};
-ghost use Rattle.calls.specs.Indices.{NoIndex, NoIndexed};
 ghost use Rattle.calls.specs.Lines.{written_call, NoCall};
 
 use crate::call::Call;
 use std::alloc::Global;
-use tokens::{Fault, Piece, byte, keyed, number, word};
-
-/// The number of a lane or a place.
-fn index(piece: Piece<'_>) -> Result<usize, Fault>
-    ensures { MatchResult result (λ n. piece.entry.text.now ≡ decimal n) (λ _. NoIndex piece.entry.text.now) }
-{
-    Ok(number(piece, u64::MAX)? as usize)
-}
-
-/// The number that is the first word, and what follows the blank after it.
-fn indexed<'a>(piece: Piece<'a>) -> Result<(usize, Piece<'a>), Fault>
-    ensures { MatchResult result (λ p. (p.0 < 2 ^ 64) × (piece.entry.text.now ≡ spaced (decimal p.0) p.1.text.now)) (λ _. NoIndexed piece.entry.text.now) }
-{
-    let (first, rest) = word(piece)?;
-    Ok((index(first)?, rest))
-}
+use tokens::{Fault, Piece, byte, count, keyed, setting, word};
 
 /// `bank ID level=0 PLAN`, behind the verb.
 pub(crate) fn bank(heap: Global, piece: Piece<'_>) -> Result<Call, Fault>
-    ensures { MatchResult result (λ q. spaced (codes "bank") piece.entry.text.now ≡ written_call q) (λ f. (f ≡ Memory) ⊎ NoCall (spaced (codes "bank") piece.entry.text.now)) }
+    ensures { Reads written_call NoCall (spaced (codes "bank") piece.entry.text.now) result }
 {
     let (id, rest) = word(piece)?;
     let plan = keyed(rest, "level=0 ")?;
@@ -37,36 +21,37 @@ pub(crate) fn bank(heap: Global, piece: Piece<'_>) -> Result<Call, Fault>
 
 /// `take LANE BYTE`, behind the verb.
 pub(crate) fn take(piece: Piece<'_>) -> Result<Call, Fault>
-    ensures { MatchResult result (λ q. spaced (codes "take") piece.entry.text.now ≡ written_call q) (λ f. (f ≡ Memory) ⊎ NoCall (spaced (codes "take") piece.entry.text.now)) }
+    ensures { Reads written_call NoCall (spaced (codes "take") piece.entry.text.now) result }
 {
-    let (lane, rest) = indexed(piece)?;
+    let (lane, rest) = setting(piece, "", u64::MAX)?;
     let byte = byte(rest)?;
     Ok(Call::Take { lane, byte })
 }
 
 /// `read LANE PLACE`, behind the verb.
 pub(crate) fn read(piece: Piece<'_>) -> Result<Call, Fault>
-    ensures { MatchResult result (λ q. spaced (codes "read") piece.entry.text.now ≡ written_call q) (λ f. (f ≡ Memory) ⊎ NoCall (spaced (codes "read") piece.entry.text.now)) }
+    ensures { Reads written_call NoCall (spaced (codes "read") piece.entry.text.now) result }
 {
-    let (lane, rest) = indexed(piece)?;
-    let place = index(rest)?;
+    let (lane, rest) = setting(piece, "", u64::MAX)?;
+    let place = count(rest)?;
     Ok(Call::Read { lane, place })
 }
 
 /// `set LANE PLACE BYTE`, behind the verb.
 pub(crate) fn set(piece: Piece<'_>) -> Result<Call, Fault>
-    ensures { MatchResult result (λ q. spaced (codes "set") piece.entry.text.now ≡ written_call q) (λ f. (f ≡ Memory) ⊎ NoCall (spaced (codes "set") piece.entry.text.now)) }
+    ensures { Reads written_call NoCall (spaced (codes "set") piece.entry.text.now) result }
 {
-    let (lane, rest) = indexed(piece)?;
-    let (place, last) = indexed(rest)?;
+    let (lane, rest) = setting(piece, "", u64::MAX)?;
+    let (place, last) = setting(rest, "", u64::MAX)?;
     let byte = byte(last)?;
     Ok(Call::Set { lane, place, byte })
 }
 
 /// `regs LANE`, behind the verb.
+#[tactic(auto, using(tokens::proofs::Decimals::no_number))]
 pub(crate) fn regs(piece: Piece<'_>) -> Result<Call, Fault>
-    ensures { MatchResult result (λ q. spaced (codes "regs") piece.entry.text.now ≡ written_call q) (λ f. (f ≡ Memory) ⊎ NoCall (spaced (codes "regs") piece.entry.text.now)) }
+    ensures { Reads written_call NoCall (spaced (codes "regs") piece.entry.text.now) result }
 {
-    let lane = index(piece)?;
+    let lane = count(piece)?;
     Ok(Call::Regs { lane })
 }

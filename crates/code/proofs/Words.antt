@@ -1,26 +1,15 @@
 -- Equal symbols, and sums of codewords, in a code of any size.
-use mathlib.Core.Path.{◌≡◌, sym, subst, ap, ap₂, ◌∙◌}
-use mathlib.Core.List.{List, [], ◌∷◌}
-use Prim.Native.Nat.{ℕ, zero, suc, ◌+◌, ◌*◌, ◌%◌, ◌<◌, ◌≤◌}
-use native.Mathlib.Omega.{arith}
-use lib.Dec.{leb, leb→le}
-use lib.ListN.{length, replicate, length-replicate}
-use Rattle.table.proofs.Tests.{below}
-use Rattle.field.specs.Field.{Ops, power}
+use Rattle.std.proofs.Common.{◌≡◌, ℕ, ◌+◌, ◌*◌, ◌%◌, ◌<◌, List, replicate, sym, subst, ap, ap₂, ◌∙◌, arith}
+use Rattle.std.proofs.lemmas.List.{length-replicate}
+use Rattle.field.specs.Field.{power}
 use Rattle.polynomial.specs.Coefficients.{plus}
+use Rattle.polynomial.proofs.Clauses.{length_plus}
 use Rattle.polynomial.proofs.Algebra.{value_plus}
 use Rattle.polynomial.proofs.Geometric.{equal_vanish}
 use Rattle.polynomial.proofs.Powers.{power_product, alpha_turns, alpha_power_turn}
 use Rattle.field.proofs.Ring.{Lawful}
 use Rattle.code.specs.Code.{Code, telemetry, gamma_power, root, Codeword}
 use Rattle.code.specs.Claims.{Codewords}
-
-plus_length : {K : Type 0} (o : Ops K) (v w : List K) (n : ℕ) → length v ≡ n → length w ≡ n → length (plus o v w) ≡ n
-unfolding plus
-plus_length o [] w n hv hw = hw
-plus_length o (a ∷ v) [] n hv hw = hv
-plus_length o (a ∷ v) (b ∷ w) zero hv hw = absurd (omega arith)
-plus_length o (a ∷ v) (b ∷ w) (suc n) hv hw = ap suc (plus_length o v w n (omega arith) (omega arith))
 
 module _ {K : Type 0} (F : Lawful K) (c : Code) where
   -- Each power of γ, taken as often as α has powers, is one.
@@ -44,16 +33,16 @@ module _ {K : Type 0} (F : Lawful K) (c : Code) where
 
   pub codeword_sum : (v w : List K) → Codeword F.ops c v → Codeword F.ops c w → Codeword F.ops c (plus F.ops v w)
   codeword_sum v w cv cw = record {
-    long = plus_length F.ops v w c.symbols cv.long cw.long;
+    long = let e = length_plus F.ops v w in omega (arith, cv.long, cw.long);
     zero_at_roots = λ k h.
         value_plus F v w (root F.ops c k)
         ∙ ap₂ F.ops.sum (cv.zero_at_roots k h) (cw.zero_at_roots k h)
         ∙ F.laws.sum_self F.ops.nought;
   }
 
--- No root of the (255,223) code is one: computed over the 32 roots.
+-- No root of the (255,223) code is one.
 no_root_one : (k : ℕ) → k < 32 → (11 * (112 + k)) % 255 ≡ 0 → ⊥
-no_root_one k h e = let n : 1 ≤ (11 * (112 + k)) % 255 = leb→le 1 ((11 * (112 + k)) % 255) (below 32 (λ k. leb 1 ((11 * (112 + k)) % 255)) tt k h) in omega arith
+no_root_one k h e = omega arith
 
 pub codewords : {K : Type 0} (F : Lawful K) → Codewords F.ops
 codewords F = record {

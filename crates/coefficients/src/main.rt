@@ -3,12 +3,8 @@
 
 use generator::coefficients_line;
 
-fn run(rt: &HostRuntime) -> anyhow::Result<()> {
+fn main(rt: HostRuntime) -> anyhow::Result<()> {
     let line = coefficients_line(rt.alloc())?;
     rt.print(&line)?;
     Ok(())
-}
-
-fn main(rt: HostRuntime) -> anyhow::Result<()> {
-    run(&rt)
 }

@@ -1,6 +1,6 @@
 mod Rows
-mod Growing
 mod Quotients
 mod Extending
 mod Places
 mod Endings
+mod Room

@@ -1,18 +1,21 @@
 -- The search over the places: what holds before each, and at the next.
-use Rattle.std.proofs.Common.{◌≡◌, ℕ, suc, ◌+◌, ◌<◌, ◌≤◌, true, false, ◌⊎◌, List, [], ◌∷◌, length, sym, refl, ap, ◌∙◌, subst, ap₂, inl, inr, add-one, arith}
+use Rattle.std.proofs.Common.{◌≡◌, ℕ, suc, ◌+◌, ◌<◌, ◌≤◌, ◌⊎◌, List, [], ◌∷◌, length, get_or, take, set, Some, None, Option, sym, ap, ◌∙◌, subst, ap₂, inl, inr, add-one, arith}
 use Rattle.std.proofs.lemmas.Bool.{cases_lt}
 use Rattle.field.specs.Field.{power, alpha_power}
 use Rattle.field.specs.Polynomial.{value}
-use Rattle.field.proofs.Ring.{Lawful, ring, mul_assoc, zero_mul, mul_zero, mul_one}
+use Rattle.field.proofs.Ring.{Lawful, ring, mul_assoc, zero_mul, mul_one}
 use Rattle.polynomial.specs.Coefficients.{coeff}
 use Rattle.polynomial.proofs.Clauses.{clauses, values, value_cons, coeff_zero, coeff_suc, coeff_nil, power_zero, power_suc}
+use Rattle.polynomial.proofs.Entries.{coeff_read}
+use Rattle.polynomial.proofs.Algebra.{value_same}
 use Rattle.polynomial.proofs.Powers.{power_mul, power_one}
-use Rattle.code.specs.Code.{Code, gamma_power, root}
+use Rattle.code.specs.Code.{Code, gamma_power}
 use Rattle.locator.specs.Applied.{applied, deflated}
 use Rattle.locator.specs.Correction.{locator, syndrome, Syndromes, Repaired}
+use Rattle.locator.proofs.Buffers.{same_take}
 use Rattle.locator.proofs.Changes.{root_parts, syndrome_set}
-use Rattle.locator.proofs.Repairs.{repaired_none, repaired_kept, repaired_mended, error_by}
-use Rattle.correction.specs.Correcting.{TakenOff, DoubleRoot, Mended, Searched}
+use Rattle.locator.proofs.Repairs.{repaired_mended, error_by}
+use Rattle.correction.specs.Correcting.{Error, AddedPowers, Told}
 
 module _ {K : Type 0} (F : Lawful K) where
   open F.ops use {nought as 𝟎, unit as 𝟏, sum as ◌⊕◌, product as ◌⊗◌}
@@ -46,100 +49,112 @@ module _ {K : Type 0} (F : Lawful K) where
       ∙ joined y a x (value F.ops p x)
       ∙ ap (λ t. y ⊗ t) (sym (value_cons F a p x))
 
-  stepped : (g p a : K) → 𝟏 ⊗ g ⊗ (p ⊗ a) ≡ p ⊗ (g ⊗ a)
+  stepped : (g p a : K) → g ⊗ (p ⊗ a) ≡ p ⊗ (g ⊗ a)
   stepped g p a = simp ring
 
-  module _ (c : Code) (poly received s first_left : List K) where
-    -- before place i
-    pub record BeforePlace (word left terms : List K) (x scale : K) (i : ℕ) : Type 0 where
-      pub repaired : Repaired F.ops c (coeff F.ops s) poly i received word
-      pub running : Syndromes F.ops c received (coeff F.ops first_left) → Syndromes F.ops c word (coeff F.ops left)
+  kept : (a z s p : K) → z ≡ 𝟎 → a ≡ a ⊕ z ⊗ s ⊗ p
+  kept a z s p e = sym (ap (λ u. a ⊕ u ⊗ s ⊗ p) e ∙ gone)
+    where
+      gone : a ⊕ 𝟎 ⊗ s ⊗ p ≡ a
+      gone = simp ring
+
+  module _ (c : Code) (poly : List K) where
+    -- what the search holds before place i
+    pub record AtPlace (terms : List K) (x scale : K) (i : ℕ) : Type 0 where
       pub x_is : x ≡ locator F.ops c i
       pub scale_is : scale ≡ power F.ops (locator F.ops c i) c.first
       pub terms_are : (j : ℕ) → coeff F.ops terms j ≡ coeff F.ops poly j ⊗ power F.ops x j
 
-    pub first_place : (terms : List K) (x scale : K) → terms ≡ poly → x ≡ 𝟏 → scale ≡ 𝟏
-        → BeforePlace received first_left terms x scale 0
-    first_place terms x scale same x_one scale_one = record {
-      repaired = repaired_none F c (coeff F.ops s) poly received;
-      running = λ at_first. at_first;
+    pub first_place : (x scale : K) → x ≡ 𝟏 → scale ≡ 𝟏 → AtPlace poly x scale 0
+    first_place x scale x_one scale_one = record {
       x_is = x_one ∙ sym (power_zero F.ops _);
       scale_is = scale_one ∙ sym (ap (λ t. power F.ops t c.first) (power_zero F.ops _) ∙ power_one F c.first);
-      terms_are = λ j.
-          ap (λ l. coeff F.ops l j) same
-          ∙ sym (ap (λ t. coeff F.ops poly j ⊗ t) (ap (λ t. power F.ops t j) x_one ∙ power_one F j) ∙ mul_one F _);
+      terms_are = λ j. sym (ap (λ t. coeff F.ops poly j ⊗ t) (ap (λ t. power F.ops t j) x_one ∙ power_one F j) ∙ mul_one F _);
     }
 
-    module _ (word left terms : List K) (x scale : K) (i : ℕ) (now_held : BeforePlace word left terms x scale i) where
-      pub terms_above : (degree j : ℕ) → ((k : ℕ) → degree < k → coeff F.ops poly k ≡ 𝟎) → degree + 1 ≤ j → coeff F.ops terms j ≡ 𝟎
-      terms_above degree j above h = now_held.terms_are j ∙ ap (λ t. t ⊗ power F.ops x j) (above j (omega arith)) ∙ zero_mul F _
+    module _ (terms : List K) (x scale : K) (i : ℕ) (now_held : AtPlace terms x scale i) (n : ℕ) (above : (k : ℕ) → n ≤ k → coeff F.ops poly k ≡ 𝟎) where
+      terms_above : (j : ℕ) → n ≤ j → coeff F.ops terms j ≡ 𝟎
+      terms_above j h = now_held.terms_are j ∙ ap (λ t. t ⊗ power F.ops x j) (above j h) ∙ zero_mul F _
 
-      module _ (v : K) (v_is : v ≡ value F.ops terms 𝟏) where
-        value_there : v ≡ value F.ops poly (locator F.ops c i)
-        value_there =
-            v_is ∙ terms_value poly terms x 𝟏 (λ j. now_held.terms_are j ∙ sym (F.laws.product_unit _)) ∙ F.laws.product_unit _
-            ∙ ap (value F.ops poly) now_held.x_is
+      -- the sum of the first n terms is the polynomial's value
+      pub value_there : (v : K) → v ≡ value F.ops (take n terms) 𝟏 → v ≡ value F.ops poly (locator F.ops c i)
+      value_there v v_is =
+          v_is ∙ value_same F (take n terms) terms (same_take F terms n terms_above) 𝟏
+          ∙ terms_value poly terms x 𝟏 (λ j. now_held.terms_are j ∙ sym (F.laws.product_unit _)) ∙ F.laws.product_unit _
+          ∙ ap (value F.ops poly) now_held.x_is
 
-        pub double : (word' left' : List K) → Mended F.ops poly x scale (coeff F.ops s) v i word word' left left' false
-            → DoubleRoot F.ops c poly
-        double word' left' m = record {
-          i = i;
-          once = sym value_there ∙ m.0;
-          again = ap₂ (λ y z. value F.ops (deflated F.ops y poly) y ⊗ z) (sym now_held.x_is) (sym now_held.scale_is) ∙ m.1;
-        }
+      pub next_place : (steps terms' : List K) (gamma lead x' scale' : K) → ((j : ℕ) → j < n → coeff F.ops steps j ≡ power F.ops gamma j)
+          → gamma ≡ alpha_power F.ops c.step → lead ≡ gamma_power F.ops c c.first
+          → ((j : ℕ) → j < n → coeff F.ops terms' j ≡ coeff F.ops steps j ⊗ coeff F.ops terms j) → ((j : ℕ) → n ≤ j → coeff F.ops terms' j ≡ coeff F.ops terms j)
+          → x' ≡ gamma ⊗ x → scale' ≡ lead ⊗ scale → AtPlace terms' x' scale' (i + 1)
+      next_place steps terms' gamma lead x' scale' steps_are gamma_is lead_is told rest x_told scale_told =
+          subst (AtPlace terms' x' scale') (sym (add-one i)) (record { x_is = next_x; scale_is = next_scale; terms_are = λ j. next_terms j (cases_lt j n) })
+        where
+          next_x : x' ≡ locator F.ops c (suc i)
+          next_x = x_told ∙ ap₂ ◌⊗◌ gamma_is now_held.x_is ∙ sym (power_suc F.ops _ i)
 
-        module _ (word' left' : List K) (inside : i < length word) (checks : length left ≡ c.checks) where
-          taken : v ≡ 𝟎 → TakenOff F.ops poly x scale (coeff F.ops s) i word word' left left' → Repaired F.ops c (coeff F.ops s) poly (suc i) received word'
-          taken root t =
-              subst (Repaired F.ops c (coeff F.ops s) poly (suc i) received) (sym t.word)
-              (repaired_mended F c (coeff F.ops s) poly received i word now_held.repaired inside (coeff F.ops word i) t.e refl
-              (error_by F c (coeff F.ops s) poly received i t.e (t.e ⊗ scale) (sym value_there ∙ root)
-              (subst (λ y. t.e ⊗ scale ⊗ value F.ops (deflated F.ops y poly) y ≡ applied F.ops (deflated F.ops y poly) (coeff F.ops s) 0) now_held.x_is t.told)
-              (ap (λ z. t.e ⊗ z) (sym now_held.scale_is))))
+          next_scale : scale' ≡ power F.ops (locator F.ops c (suc i)) c.first
+          next_scale =
+              scale_told ∙ ap₂ ◌⊗◌ lead_is now_held.scale_is
+              ∙ sym (ap (λ y. power F.ops y c.first) (power_suc F.ops _ i) ∙ power_mul F _ _ c.first)
 
-          taken_left : TakenOff F.ops poly x scale (coeff F.ops s) i word word' left left'
-              → Syndromes F.ops c received (coeff F.ops first_left) → Syndromes F.ops c word' (coeff F.ops left')
-          taken_left t at_first k h =
-              t.syndromes k (omega arith)
-              ∙ ap₂ (λ a b. a ⊕ b) (now_held.running at_first k h)
-              (mul_assoc F t.e scale (power F.ops x k) ∙ ap (λ b. t.e ⊗ b) (ap₂ (λ y z. y ⊗ power F.ops z k) now_held.scale_is now_held.x_is ∙ sym (root_parts F c k i)))
-              ∙ sym (ap (λ w. syndrome F.ops c w k) t.word ∙ syndrome_set F c word i k (coeff F.ops word i) t.e inside refl)
+          next_terms : (j : ℕ) → (j < n) ⊎ (n ≤ j) → coeff F.ops terms' j ≡ coeff F.ops poly j ⊗ power F.ops x' j
+          next_terms j (inl h) =
+              told j h ∙ ap₂ ◌⊗◌ (steps_are j h) (now_held.terms_are j)
+              ∙ stepped (power F.ops gamma j) (coeff F.ops poly j) (power F.ops x j)
+              ∙ ap (λ t. coeff F.ops poly j ⊗ t) (sym (ap (λ y. power F.ops y j) x_told ∙ power_mul F gamma x j))
+          next_terms j (inr h) = rest j h ∙ terms_above j h ∙ sym (ap (λ t. t ⊗ power F.ops x' j) (above j h) ∙ zero_mul F _)
 
-          mended : Mended F.ops poly x scale (coeff F.ops s) v i word word' left left' true
-              → Repaired F.ops c (coeff F.ops s) poly (suc i) received word' × (Syndromes F.ops c received (coeff F.ops first_left) → Syndromes F.ops c word' (coeff F.ops left'))
-          mended (inl (other, same, same_left)) = (
-            subst (Repaired F.ops c (coeff F.ops s) poly (suc i) received) (sym same) (repaired_kept F c (coeff F.ops s) poly received i word now_held.repaired (λ z. other (value_there ∙ z))),
-            λ at_first k h. ap (λ l. coeff F.ops l k) same_left ∙ now_held.running at_first k h ∙ ap (λ w. syndrome F.ops c w k) (sym same),
-          )
-          mended (inr (root, t)) = (taken root t, taken_left t)
+    module _ (t : ℕ → K) (x scale : K) (i : ℕ) (x_is : x ≡ locator F.ops c i) (scale_is : scale ≡ power F.ops (locator F.ops c i) c.first) (v : K) (v_is : v ≡ value F.ops poly (locator F.ops c i))
+        (left : List K) where
+      -- no root: there is no error
+      pub told_none : (z : K) → z ≡ 𝟎 → (v ≡ 𝟎 → ⊥) → Told F.ops c poly t i left left (Some z)
+      told_none z z_is other = (record { none = λ _. z_is; some = λ root. absurd (other (v_is ∙ root)) }, λ k h. kept (coeff F.ops left k) z _ _ z_is)
 
-          module _ (steps terms' : List K) (gamma lead x' scale' : K) (degree : ℕ) (above : (k : ℕ) → degree < k → coeff F.ops poly k ≡ 𝟎) (room : degree < length steps)
-              (steps_are : (j : ℕ) → j < length steps → coeff F.ops steps j ≡ 𝟏 ⊗ power F.ops gamma j) (gamma_is : gamma ≡ alpha_power F.ops c.step)
-              (lead_is : lead ≡ gamma_power F.ops c c.first) (terms_told : (j : ℕ) → coeff F.ops terms' j ≡ coeff F.ops steps j ⊗ coeff F.ops terms j)
-              (x_told : x' ≡ gamma ⊗ x) (scale_told : scale' ≡ lead ⊗ scale) where
-            next_x : x' ≡ locator F.ops c (suc i)
-            next_x = x_told ∙ ap₂ ◌⊗◌ gamma_is now_held.x_is ∙ sym (power_suc F.ops _ i)
+      -- a double root
+      pub told_double : v ≡ 𝟎 → Error F.ops poly x scale t None → Told F.ops c poly t i left left None
+      told_double root double = record {
+        i = i;
+        once = sym v_is ∙ root;
+        again = ap₂ (λ y z. value F.ops (deflated F.ops y poly) y ⊗ z) (sym x_is) (sym scale_is) ∙ double;
+      }
 
-            next_scale : scale' ≡ power F.ops (locator F.ops c (suc i)) c.first
-            next_scale =
-                scale_told ∙ ap₂ ◌⊗◌ lead_is now_held.scale_is
-                ∙ sym (ap (λ y. power F.ops y c.first) (power_suc F.ops _ i) ∙ power_mul F _ _ c.first)
+      pub told_error : (e y : K) (left' : List K) → length left ≡ c.checks → v ≡ 𝟎 → Error F.ops poly x scale t (Some e) → y ≡ e ⊗ scale → AddedPowers F.ops y x left left' → Told F.ops c poly t i left left' (Some e)
+      told_error e y left' long root error y_is added = (
+        error_by F c t poly poly i e (e ⊗ scale) (sym v_is ∙ root)
+            (subst (λ y. e ⊗ scale ⊗ value F.ops (deflated F.ops y poly) y ≡ applied F.ops (deflated F.ops y poly) t 0) x_is error)
+            (ap (λ z. e ⊗ z) (sym scale_is)),
+        λ k h. added k (omega arith) ∙ ap₂ (λ y z. coeff F.ops left k ⊕ y ⊗ power F.ops z k) (y_is ∙ ap (λ z. e ⊗ z) scale_is) x_is,
+      )
 
-            next_terms : (j : ℕ) → (j < length steps) ⊎ (length steps ≤ j) → coeff F.ops terms' j ≡ coeff F.ops poly j ⊗ power F.ops x' j
-            next_terms j (inl h) =
-                terms_told j ∙ ap₂ ◌⊗◌ (steps_are j h) (now_held.terms_are j)
-                ∙ stepped (power F.ops gamma j) (coeff F.ops poly j) (power F.ops x j)
-                ∙ ap (λ t. coeff F.ops poly j ⊗ t) (sym (ap (λ y. power F.ops y j) x_told ∙ power_mul F gamma x j))
-            next_terms j (inr h) =
-                terms_told j ∙ ap (λ t. coeff F.ops steps j ⊗ t) (terms_above degree j above (omega arith)) ∙ mul_zero F _
-                ∙ sym (ap (λ t. t ⊗ power F.ops x' j) (above j (omega arith)) ∙ zero_mul F _)
+  -- what is told of one polynomial, sequence and place is told of the same ones
+  pub told_same : (c : Code) (poly' poly syndromes' syndromes left' left after : List K) (i' i : ℕ) (r' r : Option K) → poly' ≡ poly → syndromes' ≡ syndromes → left' ≡ left → i' ≡ i → r ≡ r'
+      → Told F.ops c poly' (coeff F.ops syndromes') i' left' after r' → Told F.ops c poly (coeff F.ops syndromes) i left after r
+  told_same c poly' poly syndromes' syndromes left' left after i' i r' r e f h j k told =
+      subst (Told F.ops c poly (coeff F.ops syndromes) i left after) (sym k)
+      (subst (λ n. Told F.ops c poly (coeff F.ops syndromes) n left after r') j
+      (subst (λ l. Told F.ops c poly (coeff F.ops syndromes) i' l after r') h
+      (subst (λ s. Told F.ops c poly (coeff F.ops s) i' left' after r') f
+      (subst (λ p. Told F.ops c p (coeff F.ops syndromes') i' left' after r') e told))))
 
-            pub next_place : Mended F.ops poly x scale (coeff F.ops s) v i word word' left left' true → BeforePlace word' left' terms' x' scale' (i + 1)
-            next_place m =
-                subst (BeforePlace word' left' terms' x' scale') (sym (add-one i))
-                (record { repaired = (mended m).0; running = (mended m).1; x_is = next_x; scale_is = next_scale; terms_are = λ j. next_terms j (cases_lt j (length steps)) })
+  module _ (c : Code) (poly : List K) where
+    module _ (t : ℕ → K) (received first_left word left left' : List K) (i : ℕ) (a e v : K) (a_is : a ≡ get_or word i a) (v_is : v ≡ a ⊕ e) (inside : i < length word) (told : Told F.ops c poly t i left left' (Some e)) where
+      here : set word i (a ⊕ e) ≡ set word i v
+      here = ap (set word i) (sym v_is)
 
-    pub all_places : (word left terms : List K) (x scale : K) (i : ℕ) → i ≡ c.symbols → BeforePlace word left terms x scale i
-        → Searched F.ops c poly (coeff F.ops s) received word first_left left true
-    all_places word left terms x scale i e held =
-        (subst (λ n. Repaired F.ops c (coeff F.ops s) poly n received word) e held.repaired, held.running)
+      at : a ≡ coeff F.ops word i
+      at = coeff_read F.ops word i a inside a_is
+
+      -- the error is taken off the word
+      pub repaired_next : Repaired F.ops c t poly i received word → Repaired F.ops c t poly (i + 1) received (set word i v)
+      repaired_next so_far =
+          subst (λ n. Repaired F.ops c t poly n received (set word i v)) (sym (add-one i))
+          (subst (Repaired F.ops c t poly (suc i) received) here (repaired_mended F c t poly received i word so_far inside a e at told.0))
+
+      -- and off its running syndromes
+      pub running_next : (Syndromes F.ops c received (coeff F.ops first_left) → Syndromes F.ops c word (coeff F.ops left))
+          → Syndromes F.ops c received (coeff F.ops first_left) → Syndromes F.ops c (set word i v) (coeff F.ops left')
+      running_next so_far at_first k h =
+          told.1 k h
+          ∙ ap₂ ◌⊕◌ (so_far at_first k h) (mul_assoc F e _ _ ∙ ap (λ b. e ⊗ b) (sym (root_parts F c k i)))
+          ∙ sym (ap (λ w. syndrome F.ops c w k) (sym here) ∙ syndrome_set F c word i k a e inside at)

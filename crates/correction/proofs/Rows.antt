@@ -1,17 +1,14 @@
 -- Rows of elements that a loop fills or changes place by place, and sums that it makes of them.
-use Rattle.std.proofs.Common.{◌≡◌, ℕ, zero, suc, ◌+◌, ◌-◌, ◌<◌, ◌≤◌, true, false, ◌⊎◌, List, [], ◌∷◌, length, get_or, take, drop, set, sym, refl, ap, ◌∙◌, ap₂, inl, inr, add-one, arith}
-use Rattle.std.proofs.lemmas.Bool.{cases_eq, cases_lt}
-use Rattle.std.proofs.lemmas.Bool.Decides.{not_from_Decides}
+use Rattle.std.proofs.Common.{◌≡◌, ℕ, zero, suc, ◌+◌, ◌<◌, ◌≤◌, ◌⊎◌, List, [], ◌∷◌, ◌++◌, length, get_or, take, set, sym, refl, ap, ◌∙◌, ap₂, inl, inr, add-one, append_assoc, append-nil, arith}
+use Rattle.std.proofs.lemmas.Bool.{cases_eq}
 use Rattle.field.specs.Field.{power}
 use Rattle.field.specs.Polynomial.{value}
-use Rattle.field.proofs.Ring.{Lawful, ring, mul_one, mul_left_comm, mul_zero}
+use Rattle.field.proofs.Ring.{Lawful, ring, mul_one, mul_left_comm}
 use Rattle.polynomial.specs.Coefficients.{coeff, Nought}
-use Rattle.polynomial.proofs.Clauses.{clauses, values, power_zero, power_suc}
+use Rattle.polynomial.proofs.Clauses.{clauses, values, value_cons, coeff_suc, power_zero, power_suc}
 use Rattle.polynomial.proofs.Entries.{coeff_past, coeff_read, coeff_set_here, coeff_set_other}
-use Rattle.polynomial.proofs.Algebra.{value_same}
 use Rattle.locator.specs.Applied.{applied}
-use Rattle.locator.proofs.Buffers.{same_take}
-use Rattle.locator.proofs.Loops.{value_drop, applied_take}
+use Rattle.locator.proofs.Sequences.{applies, applied_zero}
 
 module _ {K : Type 0} (F : Lawful K) where
   open F.ops use {nought as 𝟎, unit as 𝟏, sum as ◌⊕◌, product as ◌⊗◌}
@@ -54,45 +51,38 @@ module _ {K : Type 0} (F : Lawful K) where
       told ∙ ap (λ t. x ⊗ t) is ∙ mul_left_comm F x y (power F.ops x k)
       ∙ ap (λ t. y ⊗ t) (sym (ap (power F.ops x) (add-one k) ∙ power_suc F.ops x k))
 
-  -- Horner's rule at each point of a row
-  pub values_next : (p points before after : List K) (n i k : ℕ) (a : K) → 0 < i → i ≤ length p → a ≡ get_or p (i - 1) a → k < n
-      → ((j : ℕ) → j < n → coeff F.ops after j ≡ a ⊕ coeff F.ops points j ⊗ coeff F.ops before j)
-      → ((j : ℕ) → j < n → coeff F.ops before j ≡ value F.ops (drop i p) (coeff F.ops points j))
-      → coeff F.ops after k ≡ value F.ops (drop (i - 1) p) (coeff F.ops points k)
-  values_next p points before after n i k a some within is less told so_far =
-      let e : i - 1 + 1 ≡ i = omega arith in
-      told k less
-      ∙ ap₂ (λ s t. s ⊕ coeff F.ops points k ⊗ t) (coeff_read F.ops p (i - 1) a (omega arith) is)
-      (so_far k less ∙ ap (λ m. value F.ops (drop m p) (coeff F.ops points k)) (sym e))
-      ∙ sym (value_drop F p (i - 1) (coeff F.ops points k))
+  -- a polynomial reads two sequences alike, from any place of each
+  pub applied_moved : (p : List K) (t u : ℕ → K) (i j : ℕ) → ((k m n : ℕ) → m ≡ i + k → n ≡ j + k → coeff F.ops p k ⊗ t m ≡ coeff F.ops p k ⊗ u n)
+      → applied F.ops p t i ≡ applied F.ops p u j
+  applied_moved [] t u i j same = simp applies
+  applied_moved (a ∷ p) t u i j same =
+      let here : a ⊗ t i ≡ a ⊗ u j = simp clauses at (same 0 i j (omega arith) (omega arith)) in
+      let rest = applied_moved p t u (suc i) (suc j) (λ k m n e f. simp clauses at (same (suc k) m n (omega arith) (omega arith))) in
+      simp (applies, here, rest)
 
-  -- the first elements of a row that are zero, and one more
-  pub zeros_next : (row : List K) (i : ℕ) (a z : K) → i < length row → a ≡ get_or row i a → z ≡ 𝟎 → F.ops.same a z ≡ true → ((j : ℕ) → j < i → coeff F.ops row j ≡ 𝟎)
-      → (j : ℕ) → j < i + 1 → coeff F.ops row j ≡ 𝟎
-  zeros_next row i a z within is zero_told alike so_far j h = go (cases_eq j i)
+  -- a polynomial applied to a sequence, term by term: what is left of both
+  pub apply_next : (p q s t : List K) (x y m v sum all : K) → p ≡ x ∷ q → s ≡ y ∷ t → m ≡ x ⊗ y → v ≡ sum ⊕ m
+      → sum ⊕ applied F.ops p (coeff F.ops s) 0 ≡ all → v ⊕ applied F.ops q (coeff F.ops t) 0 ≡ all
+  apply_next p q s t x y m v sum all is_p is_s is_m is_v so_far =
+      ap₂ ◌⊕◌ (is_v ∙ ap (λ a. sum ⊕ a) is_m) (sym later)
+      ∙ regrouped sum (x ⊗ y) (applied F.ops q (coeff F.ops (y ∷ t)) 1)
+      ∙ ap (λ a. sum ⊕ a) (sym (ap₂ (λ p s. applied F.ops p (coeff F.ops s) 0) is_p is_s ∙ simp (applies, clauses)))
+      ∙ so_far
     where
-      go : (j ≡ i) ⊎ (j ≡ i → ⊥) → coeff F.ops row j ≡ 𝟎
-      go (inl e) = ap (coeff F.ops row) e ∙ sym (coeff_read F.ops row i a within is) ∙ (F.laws.sameness a z).0 alike ∙ zero_told
-      go (inr ne) = so_far j (omega arith)
+      regrouped : (x y z : K) → x ⊕ y ⊕ z ≡ x ⊕ (y ⊕ z)
+      regrouped x y z = simp ring
 
-  pub zeros_broken : (row : List K) (i : ℕ) (a z : K) → i < length row → a ≡ get_or row i a → z ≡ 𝟎 → F.ops.same a z ≡ false → Nought F.ops row → ⊥
-  zeros_broken row i a z within is zero_told differs all =
-      not_from_Decides (F.ops.same a z) (F.laws.sameness a z) differs (coeff_read F.ops row i a within is ∙ all i ∙ sym zero_told)
+      later : applied F.ops q (coeff F.ops (y ∷ t)) 1 ≡ applied F.ops q (coeff F.ops t) 0
+      later =
+          applied_moved q (coeff F.ops (y ∷ t)) (coeff F.ops t) 1 0
+          (λ k m n i j. let e : m ≡ suc n = omega arith in ap (λ a. coeff F.ops q k ⊗ a) (ap (coeff F.ops (y ∷ t)) e ∙ coeff_suc F.ops y t n))
 
-  pub zeros_all : (row : List K) (i : ℕ) → length row ≤ i → ((j : ℕ) → j < i → coeff F.ops row j ≡ 𝟎) → Nought F.ops row
-  zeros_all row i all so_far j = go (cases_lt j i)
+  pub apply_all : (p s : List K) (sum all : K) → (length p ≡ 0) ⊎ (length s ≡ 0) → sum ⊕ applied F.ops p (coeff F.ops s) 0 ≡ all → sum ≡ all
+  apply_all p s sum all ended so_far = sym (ap (λ a. sum ⊕ a) (applied_zero F p (coeff F.ops s) 0 (λ i n e. none i n ended)) ∙ simp ring) ∙ so_far
     where
-      go : (j < i) ⊎ (i ≤ j) → coeff F.ops row j ≡ 𝟎
-      go (inl h) = so_far j h
-      go (inr h) = coeff_past F.ops row j (omega arith)
-
-  -- a polynomial applied to a sequence, term by term
-  pub apply_next : (p s : List K) (i at : ℕ) (a b m v sum : K) → i < length p → at + i < length s → a ≡ get_or p i a → b ≡ get_or s (at + i) b → m ≡ a ⊗ b → v ≡ sum ⊕ m
-      → sum ≡ applied F.ops (take i p) (coeff F.ops s) at → v ≡ applied F.ops (take (i + 1) p) (coeff F.ops s) at
-  apply_next p s i at a b m v sum within room is_a is_b told_m told_v so_far =
-      told_v
-      ∙ ap₂ ◌⊕◌ so_far (told_m ∙ ap₂ ◌⊗◌ (coeff_read F.ops p i a within is_a) (coeff_read F.ops s (at + i) b room is_b))
-      ∙ sym (applied_take F p i (coeff F.ops s) at (at + i) refl)
+      none : (i n : ℕ) → (length p ≡ 0) ⊎ (length s ≡ 0) → coeff F.ops p i ⊗ coeff F.ops s n ≡ 𝟎
+      none i n (inl h) = ap (λ a. a ⊗ coeff F.ops s n) (coeff_past F.ops p i (omega arith)) ∙ simp ring
+      none i n (inr h) = ap (λ a. coeff F.ops p i ⊗ a) (coeff_past F.ops s n (omega arith)) ∙ simp ring
 
   -- the sum of a row, as its value at one
   value_take : (p : List K) (i : ℕ) → value F.ops (take (suc i) p) 𝟏 ≡ value F.ops (take i p) 𝟏 ⊕ coeff F.ops p i
@@ -110,17 +100,26 @@ module _ {K : Type 0} (F : Lawful K) where
   sum_next p i a v sum is told so_far =
       told ∙ ap₂ ◌⊕◌ so_far is ∙ sym (ap (λ m. value F.ops (take m p) 𝟏) (add-one i) ∙ value_take p i)
 
-  pub sum_all : (p : List K) (i n : ℕ) (sum : K) → i ≡ n → ((j : ℕ) → n ≤ j → coeff F.ops p j ≡ 𝟎) → sum ≡ value F.ops (take i p) 𝟏 → sum ≡ value F.ops p 𝟏
-  sum_all p i n sum e above so_far =
-      so_far ∙ ap (λ m. value F.ops (take m p) 𝟏) e ∙ value_same F (take n p) p (same_take F p n above) 𝟏
+  -- Horner's rule at each point of a row: `rest` is still to come, from its end
+  abbrev pub Halfway : List K → List K → List K → List K → Type 0
+  Halfway coefficients points row rest =
+      (done : List K) × (coefficients ≡ rest ++ done) × ((k : ℕ) → k < 32 → coeff F.ops row k ≡ value F.ops done (coeff F.ops points k))
 
-  -- terms from the n-th on are zero, whatever they are multiplied by
-  pub terms_all : (steps start row : List K) (i n : ℕ) → i ≡ n → ((j : ℕ) → n ≤ j → coeff F.ops start j ≡ 𝟎) → Changed (λ j a. coeff F.ops steps j ⊗ a) start row i
-      → (j : ℕ) → coeff F.ops row j ≡ coeff F.ops steps j ⊗ coeff F.ops start j
-  terms_all steps start row i n e above so_far j = go (cases_lt j i)
+  pub values_none : (coefficients points row rest : List K) → rest ≡ coefficients → Nought F.ops row → Halfway coefficients points row rest
+  values_none coefficients points row rest e none = ([], sym e ∙ sym (append-nil rest), λ k h. none k ∙ zero_value (coeff F.ops points k))
     where
-      go : (j < i) ⊎ (i ≤ j) → coeff F.ops row j ≡ coeff F.ops steps j ⊗ coeff F.ops start j
-      go (inl h) = so_far.0 j h
-      go (inr h) =
-          so_far.1 j h ∙ above j (omega arith)
-          ∙ sym (ap (λ t. coeff F.ops steps j ⊗ t) (above j (omega arith)) ∙ mul_zero F _)
+      zero_value : (x : K) → 𝟎 ≡ value F.ops [] x
+      zero_value x = simp values
+
+  pub values_next : (coefficients points row row' rest rest' : List K) (a : K) → rest ≡ rest' ++ a ∷ []
+      → ((k : ℕ) → k < 32 → coeff F.ops row' k ≡ a ⊕ coeff F.ops points k ⊗ coeff F.ops row k) → Halfway coefficients points row rest → Halfway coefficients points row' rest'
+  values_next coefficients points row row' rest rest' a e told (done, is, so_far) = (
+    a ∷ done,
+    is ∙ ap (λ r. r ++ done) e ∙ append_assoc rest' (a ∷ []) done,
+    λ k h. told k h ∙ ap (λ t. a ⊕ coeff F.ops points k ⊗ t) (so_far k h) ∙ sym (value_cons F a done (coeff F.ops points k)),
+  )
+
+  pub values_all : (coefficients points row rest : List K) → length rest ≡ 0 → Halfway coefficients points row rest
+      → (k : ℕ) → k < 32 → coeff F.ops row k ≡ value F.ops coefficients (coeff F.ops points k)
+  values_all coefficients points row [] e (done, is, so_far) k h = so_far k h ∙ ap (λ p. value F.ops p (coeff F.ops points k)) (sym is)
+  values_all coefficients points row (a ∷ rest) e halfway k h = absurd (omega arith)

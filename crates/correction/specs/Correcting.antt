@@ -1,12 +1,12 @@
 -- What correcting a word answers and leaves, and what the steps of it do.
-use Rattle.std.specs.Prelude.{◌≡◌, ℕ, ◌<◌, Bool, true, false, ◌⊎◌, List, length, Some, None, Ok, Err, Option, Result, ◌≢◌, slice_set}
+use Rattle.std.specs.Prelude.{◌≡◌, ℕ, ◌<◌, ◌⊎◌, List, length, Some, None, Ok, Err, Option, Result}
 use Rattle.field.specs.Field.{Ops, power}
 use Rattle.field.specs.Polynomial.{value, Vanishes}
 use Rattle.polynomial.specs.Coefficients.{coeff}
 use Rattle.polynomial.specs.Words.{distance}
 use Rattle.code.specs.Code.{Code, telemetry, root}
 use Rattle.locator.specs.Applied.{applied, deflated}
-use Rattle.locator.specs.Correction.{locator, Syndromes, Near, Repaired}
+use Rattle.locator.specs.Correction.{locator, Syndromes, Near, ErrorAt, Repaired}
 
 -- No codeword is near enough to a word.
 abbrev pub Far : {F : Type 0} → Ops F → Code → List F → Type 0
@@ -45,31 +45,18 @@ Error o poly r scale t (Some e) = o.product (o.product e scale) (value o (deflat
 abbrev pub AddedPowers : {F : Type 0} → Ops F → F → F → List F → List F → Type 0
 AddedPowers o y x before after = (k : ℕ) → k < length before → coeff o after k ≡ o.sum (coeff o before k) (o.product y (power o x k))
 
--- An error e was taken off symbol i, and off the syndromes.
-pub record TakenOff {F : Type 0} (o : Ops F) (poly : List F) (x scale : F) (t : ℕ → F) (i : ℕ) (before after left left_After : List F) : Type 0 where
-  pub e : F
-  pub told : o.product (o.product e scale) (value o (deflated o x poly) x) ≡ applied o (deflated o x poly) t 0
-  pub word : after ≡ slice_set before i (o.sum (coeff o before i) e)
-  pub syndromes : AddedPowers o (o.product e scale) x left left_After
-
 -- The locator X of some place is a root, and the quotient by x + X times X to the exponent of the first root vanishes there.
 pub record DoubleRoot {F : Type 0} (o : Ops F) (c : Code) (poly : List F) : Type 0 where
   pub i : ℕ
   pub once : value o poly (locator o c i) ≡ o.nought
   pub again : o.product (value o (deflated o (locator o c i) poly) (locator o c i)) (power o (locator o c i) c.first) ≡ o.nought
 
--- What is done at place i, where the polynomial has the value v: nothing where v is not zero, else an error is taken off; or it is refused, where the root is a double one.
-abbrev pub Mended : {F : Type 0} → Ops F → List F → F → F → (ℕ → F) → F → ℕ → List F → List F → List F → List F → Bool → Type 0
-Mended o poly x scale t v i before after left left_After true =
-    ((v ≢ o.nought) × (after ≡ before) × (left_After ≡ left)) ⊎ ((v ≡ o.nought) × TakenOff o poly x scale t i before after left left_After)
-Mended o poly x scale t v i before after left left_After false = (v ≡ o.nought) × (o.product (value o (deflated o x poly) x) scale ≡ o.nought)
-
--- After the search over all places: errors are taken off at all roots, and the running syndromes are those of the word, if they were at first;
--- or there is a double root.
-abbrev pub Searched : {F : Type 0} → Ops F → Code → List F → (ℕ → F) → List F → List F → List F → List F → Bool → Type 0
-Searched o c poly t before after left left_After true =
-    Repaired o c t poly c.symbols before after × (Syndromes o c before (coeff o left) → Syndromes o c after (coeff o left_After))
-Searched o c poly t before after left left_After false = DoubleRoot o c poly
+-- What the search tells at place i: the error there, which is taken off the running syndromes; or none, where the polynomial has a double root.
+abbrev pub Told : {F : Type 0} → Ops F → Code → List F → (ℕ → F) → ℕ → List F → List F → Option F → Type 0
+Told o c poly t i left left_after (Some e) =
+    ErrorAt o c t poly i e
+    × ((k : ℕ) → k < c.checks → coeff o left_after k ≡ o.sum (coeff o left k) (o.product (o.product e (power o (locator o c i) c.first)) (power o (locator o c i) k)))
+Told o c poly t i left left_after None = DoubleRoot o c poly
 
 -- After the errors are taken off: the word vanishes at the roots, and the degree is answered; or there is a double root, or the word does not vanish.
 abbrev pub Removed : {F : Type 0} → Ops F → Code → List F → ℕ → (ℕ → F) → List F → List F → Option ℕ → Type 0

@@ -1,5 +1,5 @@
 -- What is said to a line, and what it makes of the bank that is open.
-use Rattle.std.specs.Prelude.{◌≡◌, ℕ, true, false, ◌⊎◌, List, vec_items, string_bytes}
+use Rattle.std.specs.Prelude.{◌≡◌, ℕ, true, false, Ok, Err, ◌⊎◌, List, vec_items, string_bytes}
 use Rattle.tokens.specs.declared.fault.Fault.{Fault}
 use Rattle.tokens.specs.declared.fault.Fault.TheVariants.{Memory, Shape, Key, Digit, Half, Number, Long, Text}
 use Rattle.packet.specs.Items.{items}
@@ -13,7 +13,6 @@ use Rattle.calls.specs.declared.call.Call.{Call}
 use Rattle.requests.specs.Lines.{written, NoRequest}
 use Rattle.requests.specs.declared.requested.Request.{Request}
 use Rattle.session.specs.Sessions.{State, Called, After}
-use Rattle.session.specs.declared.calling.Outcome.TheVariants.{Done, Refused}
 use Rattle.session.specs.declared.objection.Objection.{Objection}
 use Rattle.desk.specs.Lines.{Answered, refusal}
 use Rattle.desk.specs.Said.{passed_over}
@@ -35,8 +34,8 @@ told_fault (Text at) other = Text at
 -- The reply to a call: its line, or why it is not carried out.
 abbrev pub RepliedToCall : ℕ → Call → State → Reply → State → Type 0
 RepliedToCall n c before Nothing after = ⊥
-RepliedToCall n c before (Answer s) after = Called c before (Done s) × After c before after
-RepliedToCall n c before (Refusal s) after = (o : Objection) × Called c before (Refused o) × (string_bytes s ≡ objected n o) × After c before after
+RepliedToCall n c before (Answer s) after = Called c before (Ok s) × After c before after
+RepliedToCall n c before (Refusal s) after = (o : Objection) × Called c before (Err o) × (string_bytes s ≡ objected n o) × After c before after
 
 -- The line that answers a request about a block or a message that arrived.
 abbrev pub Arrived : Arrival → List ℕ → Type 0
@@ -74,3 +73,7 @@ abbrev pub ToldToLine : ℕ → List ℕ → State → Reply → State → Type 
 ToldToLine n line before Nothing after = (passed_over line ≡ true) × (after ≡ before)
 ToldToLine n line before (Answer s) after = (passed_over line ≡ false) × ToldTo n line before (Answer s) after
 ToldToLine n line before (Refusal s) after = (passed_over line ≡ false) × ToldTo n line before (Refusal s) after
+
+-- What a line makes of the bank that is open, whether or not memory runs out: nothing, or what the call that it is written as makes of it.
+abbrev pub Changed : List ℕ → State → State → Type 0
+Changed line before after = (after ≡ before) ⊎ ((c : Call) × (line ≡ written_call c) × After c before after)

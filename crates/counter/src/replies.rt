@@ -1,37 +1,19 @@
 //! The reply to a line.
-ghost use Rattle.std.specs.Prelude.{◌≡◌, false, IfOk, string_bytes};
+ghost use Rattle.std.specs.Prelude.{◌≡◌, false, None, IfOk, string_bytes};
 ghost use Rattle.calls.specs.Lines.{NoCall, written_call};
 ghost use Rattle.session.specs.Sessions.{state_of, Called, After};
-ghost use Rattle.counter.specs.Objected.{objected};
-ghost use Rattle.desk.specs.Said.{passed_over};
-ghost use Rattle.counter.specs.Told.{told_fault as told_fault_of, Arrived, RepliedToCall, RepliedToRequest, RepliedToOther, ToldToLine};
+ghost use Rattle.counter.specs.Told.{told_fault as told_fault_of, Arrived, RepliedToCall, RepliedToRequest, RepliedToOther, ToldToLine, Changed};
 
 use crate::state::Desk;
 use accounts::{next_line, receive_line};
 use arrivals::{Arrival, read_arrival};
 use calls::{Call, read_call};
-use desk::{Reply, answer_request, refusal};
+use desk::{Reply, answer_request, is_passed_over, refusal};
 use requests::read_request;
-use session::{Objection, Outcome, Session};
+use service::Replier;
+use session::Session;
 use std::alloc::{AllocError, Global};
 use tokens::Fault;
-
-/// The line that tells why the call of the line with this number is not carried out.
-fn objection_line(heap: Global, line: u64, objection: Objection) -> Result<String, AllocError>
-    ensures { IfOk result (λ s. string_bytes s ≡ objected line objection) }
-{
-    format!(in heap; "line {line} refused: {objection}")
-}
-
-/// Whether a line is passed over: it is empty, or begins with `#`.
-fn is_passed_over(line: &str) -> bool
-    ensures { result ≡ passed_over line.now }
-{
-    match line.as_bytes() {
-        [] => true,
-        [first, ..] => *first == b'#',
-    }
-}
 
 /// Which of two faults is told: the first, unless it says that the line has another shape.
 fn told_fault(first: Fault, other: Fault) -> Fault
@@ -50,13 +32,12 @@ fn reply_to_call(
     number: u64,
     call: Call,
 ) -> Result<Reply, AllocError>
-    ensures { IfOk result (λ reply. RepliedToCall number call (state_of session.old) reply (state_of session.new)) }
+    ensures reply { IfOk result (λ reply. RepliedToCall number call (state_of session.old) reply (state_of session.new)) }
+    ensures after { After call (state_of session.old) (state_of session.new) }
 {
     match session.call(heap, call)? {
-        Outcome::Done(text) => Ok(Reply::Answer(text)),
-        Outcome::Refused(objection) => {
-            Ok(Reply::Refusal(objection_line(heap, number, objection)?))
-        }
+        Ok(text) => Ok(Reply::Answer(text)),
+        Err(objection) => Ok(Reply::Refusal(refusal(heap, number, objection)?)),
     }
 }
 
@@ -70,8 +51,8 @@ fn answer_arrival(heap: Global, arrival: Arrival) -> Result<String, AllocError>
             depth,
             length,
             block,
-        } => receive_line(heap, id.as_str(), depth, length, block.as_slice()),
-        Arrival::Next { id, message } => next_line(heap, id.as_str(), message.as_slice()),
+        } => receive_line(heap, &id, depth, length, &block),
+        Arrival::Next { id, message } => next_line(heap, &id, &message),
     }
 }
 
@@ -103,16 +84,20 @@ fn reply_to_other(heap: Global, number: u64, line: &str, fault: Fault) -> Result
 impl Desk {
     /// A desk at which no bank is open.
     pub fn new() -> Desk
-        ensures { (state_of result.session).is_open ≡ false }
+        ensures { state_of result.session ≡ None }
     {
         Desk {
             session: Session::new(),
         }
     }
+}
 
-    /// What is said to the line with this number.
-    pub fn reply_to(&mut self, heap: Global, number: u64, line: &str) -> Result<Reply, AllocError>
-        ensures { IfOk result (λ reply. ToldToLine number line.now (state_of self.old.session) reply (state_of self.new.session)) }
+impl Replier for Desk {
+    ghost Says = { λ before n line reply after. ToldToLine n line (state_of before.session) reply (state_of after.session) };
+
+    fn reply_to(&mut self, heap: Global, number: u64, line: &str) -> Result<Reply, AllocError>
+        ensures said { IfOk result (λ reply. ToldToLine number line.now (state_of self.old.session) reply (state_of self.new.session)) }
+        ensures changed { Changed line.now (state_of self.old.session) (state_of self.new.session) }
     {
         if is_passed_over(line) {
             return Ok(Reply::Nothing);

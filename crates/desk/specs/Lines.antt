@@ -27,6 +27,10 @@ Answered (AtPower q) line = Replied power_ops power_text q line
 Answered (AtDual q) line = Replied dual_ops dual_text q line
 Answered (AtExponent q) line = Replied logarithm_ops logarithm_text q line
 
+-- The line that tells that the line with the number n is refused, and why.
+abbrev pub refused_line : ℕ → List ℕ → List ℕ
+refused_line n why = codes "line " ++ (decimal n ++ (codes " refused: " ++ why))
+
 -- The line that tells why the line with the number n is no request.
 abbrev pub refusal : ℕ → Fault → List ℕ
-refusal n f = codes "line " ++ (decimal n ++ (codes " refused: " ++ shown_fault f))
+refusal n f = refused_line n (shown_fault f)

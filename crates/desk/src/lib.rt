@@ -8,5 +8,5 @@ mod reply;
 
 pub use checks::answer_request;
 pub use questions::answer_question;
-pub use replies::{refusal, reply_to};
+pub use replies::{is_passed_over, refusal, reply_to};
 pub use reply::Reply;

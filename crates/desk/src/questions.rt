@@ -8,22 +8,12 @@ use requests::Question;
 use spelling::{Spelled, write_list};
 use std::alloc::{AllocError, Global};
 
-/// Writes a word behind the text, with a blank between.
-fn push_word(text: &mut String, word: &str) -> Result<(), AllocError>
-    ensures { OnOk result (string_bytes text.new ≡ string_bytes text.old ++ (32 ∷ word.now)) }
-{
-    text.push_str(" ")?;
-    text.push_str(word)?;
-    Ok(())
-}
-
 /// Writes an element behind the text, with a blank between.
 fn push_element<F: Spelled>(text: &mut String, x: F) -> Result<(), AllocError>
     ensures { OnOk result (string_bytes text.new ≡ string_bytes text.old ++ (32 ∷ F.written x)) }
 {
-    text.push_str(" ")?;
-    x.write(text)?;
-    Ok(())
+    text.push(' ')?;
+    x.write(text)
 }
 
 /// The same for an element that may be missing.
@@ -32,7 +22,7 @@ fn push_option<F: Spelled>(text: &mut String, x: Option<F>) -> Result<(), AllocE
 {
     match x {
         Some(element) => push_element(text, element),
-        None => push_word(text, "none"),
+        None => text.push_str(" none"),
     }
 }
 
@@ -55,8 +45,7 @@ fn operate<F: Field + Spelled>(heap: Global, a: F, b: F) -> Result<String, Alloc
     push_element(&mut text, a.plus(b))?;
     push_element(&mut text, a.times(b))?;
     push_option(&mut text, a.reciprocal())?;
-    let same = if a.same(b) { "1" } else { "0" };
-    push_word(&mut text, same)?;
+    text.push_str(if a == b { " 1" } else { " 0" })?;
     Ok(text)
 }
 
@@ -112,12 +101,8 @@ pub fn answer_question<F: Field + Spelled>(
     match question {
         Question::Constants => constants::<F>(heap),
         Question::Operate { a, b } => operate(heap, a, b),
-        Question::Evaluate { coefficients, x } => value(heap, coefficients.as_slice(), x),
-        Question::Divide { mut buffer, by } => remainder(
-            heap,
-            buffer.as_mut_slice(),
-            by.as_slice(),
-        ),
-        Question::Root { coefficients, from } => root(heap, coefficients.as_slice(), from),
+        Question::Evaluate { coefficients, x } => value(heap, &coefficients, x),
+        Question::Divide { mut buffer, by } => remainder(heap, &mut buffer, &by),
+        Question::Root { coefficients, from } => root(heap, &coefficients, from),
     }
 }

@@ -1,29 +1,26 @@
 //! The reply to a line.
-ghost use Rattle.std.specs.Prelude.{◌≡◌, IfOk, string_bytes};
-ghost use Rattle.desk.specs.Lines.{refusal as refusal_line};
+ghost use Rattle.std.specs.Prelude.{◌≡◌, IfOk, IfSome, string_bytes};
+ghost use Rattle.desk.specs.Lines.{refused_line};
 ghost use Rattle.desk.specs.Said.{passed_over, Said};
 
 use crate::checks::answer_request;
 use crate::reply::Reply;
 use requests::read_request;
 use std::alloc::{AllocError, Global};
-use tokens::Fault;
+use std::fmt::Display;
 
-/// The line that tells why the line with this number is no request.
-pub fn refusal(heap: Global, line: u64, fault: Fault) -> Result<String, AllocError>
-    ensures { IfOk result (λ s. string_bytes s ≡ refusal_line line fault) }
+/// The line that tells why the line with this number is refused.
+pub fn refusal<D: Display + Drop>(heap: Global, line: u64, why: D) -> Result<String, AllocError>
+    ensures { IfOk result (λ s. IfSome (D.output why) (λ bs. string_bytes s ≡ refused_line line bs)) }
 {
-    format!(in heap; "line {line} refused: {fault}")
+    format!(in heap; "line {line} refused: {why}")
 }
 
 /// Whether a line is passed over: it is empty, or begins with `#`.
-fn is_passed_over(line: &str) -> bool
+pub fn is_passed_over(line: &str) -> bool
     ensures { result ≡ passed_over line.now }
 {
-    match line.as_bytes() {
-        [] => true,
-        [first, ..] => *first == b'#',
-    }
+    line.is_empty() || line.starts_with('#')
 }
 
 /// What is said to the line with this number.

@@ -1,7 +1,9 @@
-//! Two dividers, each a bank of one lane: one by a table of products, in power form, and one bit by bit, in dual form.
+//! Dividers, each a bank of one lane, over the form of their registers: by a table of products, in power form, and bit by bit, in dual
+//! form.
 #![tactic(auto)]
 
-mod lane;
+mod form;
+mod one_lane;
 mod products;
 mod registers;
 mod rows;
@@ -12,8 +14,10 @@ ghost use Rattle.std.specs.Prelude.{◌≡◌, [], ◌∷◌};
 ghost use Rattle.bank.specs.Lanes.{zeros, all_fed, told};
 
 use bank::{Bank, BankFault, read_alike};
-pub use serial_divider::SerialDivider;
-pub use table_divider::TableDivider;
+pub use form::Form;
+pub use one_lane::Divider;
+pub use serial_divider::{DualForm, SerialDivider};
+pub use table_divider::{PowerForm, TableDivider};
 
 /// What the two dividers read in a register once both, zero at first, took the symbols with these bytes: the same.
 pub fn read_both(bytes: &[u8], place: usize) -> (Result<u8, BankFault>, Result<u8, BankFault>)

@@ -4,8 +4,10 @@ ghost use Rattle.power_form.specs.Arithmetic.{product};
 ghost use Rattle.dividers.specs.Coefficients.{coefficient_byte};
 ghost use Rattle.dividers.specs.Rows.{rows_right};
 
+use bank::REGISTERS;
+
 /// Row f has f·G_0 to f·G_31, in power form.
-const ROWS: [[u8; 32]; 256] = [
+const ROWS: [[u8; REGISTERS]; 256] = [
     [
         0x00, 0x00, 0x00, 0x00, 0x00, 0x00, 0x00, 0x00, 0x00, 0x00, 0x00, 0x00, 0x00, 0x00, 0x00,
         0x00, 0x00, 0x00, 0x00, 0x00, 0x00, 0x00, 0x00, 0x00, 0x00, 0x00, 0x00, 0x00, 0x00, 0x00,
@@ -1289,7 +1291,8 @@ const ROWS: [[u8; 32]; 256] = [
 ];
 
 /// The row of f in a table that keeps the rule of `ROWS`.
-fn row_in(table: &[[u8; 32]; 256], f: u8) -> &[u8; 32]
+#[tactic(auto, using(crate::proofs::RowProducts::row_at))]
+fn row_in(table: &[[u8; REGISTERS]; 256], f: u8) -> &[u8; REGISTERS]
     requires rule { rows_right table.now ≡ true }
     ensures { (k : ℕ) → k < 32 → slice_index result.now k ≡ product f (coefficient_byte k) }
 {
@@ -1297,7 +1300,7 @@ fn row_in(table: &[[u8; 32]; 256], f: u8) -> &[u8; 32]
 }
 
 /// The products f·G_0 to f·G_31, in power form.
-pub(crate) fn row(f: u8) -> &'static [u8; 32]
+pub(crate) fn row(f: u8) -> &'static [u8; REGISTERS]
     ensures { (k : ℕ) → k < 32 → slice_index result.now k ≡ product f (coefficient_byte k) }
 {
     row_in(&ROWS, f)

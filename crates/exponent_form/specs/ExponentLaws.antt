@@ -8,12 +8,12 @@ use Rattle.field.specs.Field.{Laws, mapped}
 use Rattle.field.proofs.Carried.{carried_laws}
 use Rattle.power_form.specs.Arithmetic.{times_alpha, alpha_byte, product, exponent, inverse}
 use Rattle.power_form.specs.Bounds.{exponent_below}
-use Rattle.power_form.specs.PowerForm.{element, power_ops, exponent_if}
+use Rattle.power_form.specs.PowerForm.{element, power_ops}
 use Rattle.power_form.specs.declared.element.Power.{Power}
 use Rattle.table.proofs.Tests.{below}
 use Rattle.power_form.specs.ByteLaws.{exponent_of_power, power_of_exponent, powers_product, power_mod, product_zero}
 use Rattle.power_form.specs.PowerLaws.{power_equal, element_of, product_bits, power_bits, power_laws, reciprocal_some}
-use Rattle.exponent_form.specs.ExponentForm.{power_of_logarithm, logarithm_if, logarithm_of_power, logarithm_ops}
+use Rattle.exponent_form.specs.ExponentForm.{numbered, power_of_logarithm, logarithm_if, logarithm_of_power, logarithm_ops}
 use Rattle.exponent_form.specs.declared.element.Exponent.{Exponent}
 use Rattle.exponent_form.specs.declared.element.Logarithm.{Logarithm}
 use Rattle.exponent_form.specs.declared.element.Logarithm.TheVariants.{Star, Of}
@@ -25,11 +25,6 @@ exponent_equal {x} {y} e = λ i. record { number = e i; below = is_prop→PathP 
 pub power_positive : (n : ℕ) → n < 255 → 0 < alpha_byte n
 unfolding alpha_byte times_alpha
 power_positive n h = leb→le 1 (alpha_byte n) (below 255 (λ n. nat_lt 0 (alpha_byte n)) tt n h)
-
--- What an exponent that was found says of its byte.
-pub exponent_found : (b : Bool) (a n : ℕ) → Some n ≡ exponent_if b a → (b ≡ false) × (n ≡ exponent a)
-exponent_found true a n e = absurd (let z : ◌≡◌ {A = ℕ} 0 1 = cc in omega arith)
-exponent_found false a n e = (refl, cc)
 
 -- The logarithm of a byte that is not zero.
 pub logarithm_some : (a : ℕ) (e : Exponent) → 0 < a → exponent a ≡ e.number → logarithm_if (a == 0) a ≡ Of e
@@ -86,6 +81,15 @@ logarithm_reciprocal n s e =
     (power_bits s.number ∙ ap alpha_byte (e ∙ ap (λ k. (255 - k) % 255) (sym (exponent_of_power n.number n.below))) ∙ sym (ap inverse (power_bits n.number))) in
     ap Some (sym (of_power s) ∙ ap logarithm_of_power same)
     ∙ ap (mapped logarithm_of_power) (reciprocal_some a positive)
+
+-- The same, of exponents counted in whole turns.
+pub numbered_product : (m n : Exponent) → logarithm_ops.product (Of m) (Of n) ≡ Of (numbered (m.number + n.number))
+numbered_product m n = sym (logarithm_product m n (numbered (m.number + n.number)) refl)
+
+pub numbered_reciprocal : (n : Exponent) → logarithm_ops.reciprocal (Of n) ≡ Some (Of (numbered (255 - n.number)))
+numbered_reciprocal n = sym (logarithm_reciprocal n (numbered (255 - n.number)) refl)
+
+pub ruleset products = (numbered_product, product_star_left, product_star_right)
 
 -- Any right test of sameness is the form's.
 pub logarithm_same : (x y : Logarithm) (r : Bool) → Decides r (x ≡ y) → r ≡ logarithm_ops.same x y

@@ -3,143 +3,130 @@
 
 mod element;
 
-ghost use Rattle.std.specs.Prelude.{◌≡◌, ◌+◌, ◌-◌, ◌%◌};
+ghost use Rattle.std.specs.Prelude.{◌≡◌, refl};
 ghost use Rattle.field.specs.Field.{mapped};
 ghost use Rattle.dual_form.specs.DualForm.{power_of_dual, dual_of_power};
-ghost use Rattle.exponent_form.specs.ExponentForm.{power_of_logarithm, logarithm_of_power, logarithm_ops, in_range};
-ghost use Rattle.exponent_form.specs.ExponentLaws.{logarithm_laws};
+ghost use Rattle.exponent_form.specs.ExponentForm.{power_of_logarithm, logarithm_of_power, logarithm_ops, in_range, numbered};
+ghost use Rattle.exponent_form.specs.ExponentLaws.{logarithm_laws, same_of, star_not_of, of_not_star};
+ghost use Rattle.exponent_form.specs.declared.element.Logarithm.TheVariants.{Star, Of};
 
 use dual_form::Dual;
 pub use element::{Exponent, Logarithm};
 use field::Field;
 use power_form::{Power, alpha_to};
 
-/// The exponent of a product.
-fn exponents_added(m: u8, n: u8) -> u8
-    ensures { result ≡ (m + n) % 255 }
-{
-    ((m as u16 + n as u16) % 255) as u8
-}
-
-/// The exponent of a reciprocal.
-fn exponent_negated(n: u8) -> u8
-    ensures { result ≡ (255 - n) % 255 }
-{
-    (u8::MAX - n) % 255
-}
-
-/// The logarithm of an element, by its exponent.
-fn logarithm(element: Power) -> Logarithm
-    ensures { result ≡ logarithm_of_power element }
-{
-    match element.exponent() {
-        None => Logarithm::Star,
-        Some(number) => Logarithm::Of(Exponent { number }),
-    }
-}
-
 impl Exponent {
     /// The exponent with this number; none above 254, since α^255 is α^0.
     pub fn new(number: u8) -> Option<Exponent>
         ensures { mapped (λ e. e.number) result ≡ in_range number }
     {
+        // The closure of a `then` would have to be told the test again, since an exponent is below 255.
         if number < 255 {
             Some(Exponent { number })
         } else {
             None
         }
     }
+
+    /// The exponent with this number, counted in whole turns: α^255 is α^0.
+    fn counted(number: u16) -> Exponent
+        ensures { result ≡ numbered number }
+    {
+        Exponent {
+            number: (number % 255) as u8,
+        }
+    }
 }
 
-impl Logarithm {
-    /// The same element in power form.
-    pub fn to_power(self) -> Power
-        ensures { result ≡ power_of_logarithm self }
-    {
-        match self {
-            Logarithm::Star => Power::new(0),
+/// The same element in exponent form.
+impl From<Power> for Logarithm {
+    ghost from_gives = { λ element result. result ≡ logarithm_of_power element };
+
+    fn from(element: Power) -> Logarithm {
+        match element.exponent() {
+            None => Logarithm::Star,
+            Some(number) => Logarithm::Of(Exponent::counted(number as u16)),
+        }
+    }
+}
+
+/// The same element in power form.
+impl From<Logarithm> for Power {
+    ghost from_gives = { λ element result. result ≡ power_of_logarithm element };
+
+    fn from(element: Logarithm) -> Power {
+        match element {
+            Logarithm::Star => Power::zero(),
             Logarithm::Of(exponent) => alpha_to(exponent.number),
         }
     }
+}
 
-    /// The same element in exponent form.
-    pub fn of_power(element: Power) -> Logarithm
-        ensures { result ≡ logarithm_of_power element }
-    {
-        logarithm(element)
-    }
+/// The element of a dual byte in exponent form.
+impl From<Dual> for Logarithm {
+    ghost from_gives = { λ element result. result ≡ logarithm_of_power (power_of_dual element) };
 
-    /// The same element in dual form.
-    pub fn to_dual(self) -> Dual
-        ensures { result ≡ dual_of_power (power_of_logarithm self) }
-    {
-        Dual::of_power(self.to_power())
-    }
-
-    /// The element of a dual byte in exponent form.
-    pub fn of_dual(element: Dual) -> Logarithm
-        ensures { result ≡ logarithm_of_power (power_of_dual element) }
-    {
-        Logarithm::of_power(element.to_power())
+    fn from(element: Dual) -> Logarithm {
+        Logarithm::from(Power::from(element))
     }
 }
 
+/// The same element in dual form.
+impl From<Logarithm> for Dual {
+    ghost from_gives = { λ element result. result ≡ dual_of_power (power_of_logarithm element) };
+
+    fn from(element: Logarithm) -> Dual {
+        Dual::from(Power::from(element))
+    }
+}
+
+// Alike in two forms and no plainer as one: an impl for all that converts would overlap that of power form, and a trait between would say
+// each operation again.
 impl Field for Logarithm {
     ghost ops = { logarithm_ops };
 
     ghost laws = { logarithm_laws };
+
+    ghost equal = { elim [
+      | Star ↦ elim [ Star ↦ refl | Of n ↦ star_not_of n ]
+      | Of m ↦ elim [ Star ↦ of_not_star m | Of n ↦ same_of m n ]
+    ] };
 
     fn order() -> u8 {
         255
     }
 
     fn zero() -> Logarithm {
-        Logarithm::of_power(Power::zero())
+        Logarithm::from(Power::zero())
     }
 
     fn one() -> Logarithm {
-        Logarithm::of_power(Power::one())
+        Logarithm::from(Power::one())
     }
 
     fn alpha() -> Logarithm {
-        Logarithm::of_power(Power::alpha())
+        Logarithm::from(Power::alpha())
     }
 
     fn plus(self, other: Logarithm) -> Logarithm {
-        Logarithm::of_power(self.to_power().plus(other.to_power()))
+        Logarithm::from(Power::from(self).plus(Power::from(other)))
     }
 
+    #[tactic(auto, using(crate::specs::ExponentLaws::products))]
     fn times(self, other: Logarithm) -> Logarithm {
-        match self {
-            Logarithm::Star => Logarithm::Star,
-            Logarithm::Of(m) => match other {
-                Logarithm::Star => Logarithm::Star,
-                Logarithm::Of(n) => Logarithm::Of(Exponent {
-                    number: exponents_added(m.number, n.number),
-                }),
-            },
+        match (self, other) {
+            (Logarithm::Of(m), Logarithm::Of(n)) => Logarithm::Of(Exponent::counted(
+                m.number as u16 + n.number as u16,
+            )),
+            _ => Logarithm::Star,
         }
     }
 
+    #[tactic(auto, using(crate::specs::ExponentLaws::numbered_reciprocal))]
     fn reciprocal(self) -> Option<Logarithm> {
         match self {
             Logarithm::Star => None,
-            Logarithm::Of(n) => Some(Logarithm::Of(Exponent {
-                number: exponent_negated(n.number),
-            })),
-        }
-    }
-
-    fn same(self, other: Logarithm) -> bool {
-        match self {
-            Logarithm::Star => match other {
-                Logarithm::Star => true,
-                Logarithm::Of(_) => false,
-            },
-            Logarithm::Of(m) => match other {
-                Logarithm::Star => false,
-                Logarithm::Of(n) => m.number == n.number,
-            },
+            Logarithm::Of(n) => Some(Logarithm::Of(Exponent::counted(255 - n.number as u16))),
         }
     }
 }

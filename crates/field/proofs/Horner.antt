@@ -1,5 +1,6 @@
 -- Horner's rule, and that it gives the value of a polynomial.
-use Rattle.std.proofs.Common.{◌≡◌, ℕ, zero, suc, ◌+◌, ◌-◌, ◌<◌, ◌≤◌, List, [], ◌∷◌, length, get_or, drop, sym, ap, ◌∙◌, ap₂, not-suc-le-zero, add-one, arith, drop-cons}
+use Rattle.std.proofs.Common.{◌≡◌, ℕ, ◌+◌, List, [], ◌∷◌, length, refl, sym, ap, ◌∙◌, add-one, arith}
+use Rattle.std.specs.List.{push}
 use Rattle.field.specs.Field.{Ops, power}
 use Rattle.field.specs.Polynomial.{terms, value}
 use Rattle.field.proofs.Ring.{Lawful, ring}
@@ -14,16 +15,26 @@ unfoldable pub horner : {F : Type 0} → Ops F → List F → F → F
 horner o [] x = o.nought
 horner o (c ∷ cs) x = o.sum c (o.product x (horner o cs x))
 
--- One coefficient more, at the place below n.
-pub horner_next : {F : Type 0} (o : Ops F) (cs : List F) (x : F) (n : ℕ) (c s : F) → 0 < n → n ≤ length cs → c ≡ get_or cs (n - 1) c → s ≡ horner o (drop n cs) x → o.sum c (o.product x s) ≡ horner o (drop (n - 1) cs) x
-unfolding horner
-horner_next o cs x zero c s positive within read before = absurd (not-suc-le-zero positive)
-horner_next o cs x (suc i) c s positive within read before =
-    let less : suc i - 1 ≡ i = omega arith in
-    let read' : c ≡ get_or cs i c = read ∙ ap (λ k. get_or cs k c) less in
-    ap₂ (λ d t. o.sum d (o.product x t)) read' before
-    ∙ sym (ap (λ l. horner o l x) (drop-cons cs i c within))
-    ∙ sym (ap (λ k. horner o (drop k cs) x) less)
+-- The same above coefficients that gave s.
+unfoldable pub horner_above : {F : Type 0} → Ops F → List F → F → F → F
+horner_above o [] x s = s
+horner_above o (c ∷ cs) x s = o.sum c (o.product x (horner_above o cs x s))
+
+pub horner_none : {F : Type 0} (o : Ops F) (cs : List F) (x s : F) → length cs ≡ 0 → horner_above o cs x s ≡ s
+unfolding horner_above
+horner_none o [] x s none = refl
+horner_none o (c ∷ cs) x s none = absurd (omega arith)
+
+-- The last coefficient comes first.
+pub horner_last : {F : Type 0} (o : Ops F) (cs : List F) (x c s : F) → horner_above o (push cs c) x s ≡ horner_above o cs x (o.sum c (o.product x s))
+unfolding horner_above
+horner_last o [] x c s = refl
+horner_last o (b ∷ cs) x c s = ap (λ t. o.sum b (o.product x t)) (horner_last o cs x c s)
+
+horner_from_top : {F : Type 0} (o : Ops F) (cs : List F) (x : F) → horner_above o cs x o.nought ≡ horner o cs x
+unfolding horner horner_above
+horner_from_top o [] x = refl
+horner_from_top o (c ∷ cs) x = ap (λ t. o.sum c (o.product x t)) (horner_from_top o cs x)
 
 module _ {K : Type 0} (F : Lawful K) where
   open F.ops use {unit as 𝟏, sum as ◌⊕◌, product as ◌⊗◌}
@@ -41,3 +52,7 @@ module _ {K : Type 0} (F : Lawful K) where
   pub value_horner : (cs : List K) (x : K) → value F.ops cs x ≡ horner F.ops cs x
   unfolding value
   value_horner cs x = terms_horner cs x 𝟏 ∙ F.laws.product_unit (horner F.ops cs x)
+
+  -- All coefficients, above nothing.
+  pub value_from_top : (cs : List K) (x : K) → horner_above F.ops cs x F.ops.nought ≡ value F.ops cs x
+  value_from_top cs x = horner_from_top F.ops cs x ∙ sym (value_horner cs x)

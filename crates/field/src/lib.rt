@@ -5,8 +5,9 @@ ghost use Rattle.std.specs.Prelude.{◌≡◌};
 ghost use Rattle.field.specs.Field.{Ops, Laws, power as power_of};
 ghost use Rattle.field.specs.Polynomial.{value, first_root as first_root_of};
 
-/// A way to write the elements of a field. Its operations keep the laws of a field in which every element but zero is a power of α.
-pub trait Field: Copy {
+/// A way to write the elements of a field. Its operations keep the laws of a field in which every element but zero is a power of α,
+/// and `==` is the field's test of sameness.
+pub trait Field: Copy + PartialEq {
     ghost ops: { Ops Self };
 
     /// How many different powers α has: the first that is one again.
@@ -32,13 +33,13 @@ pub trait Field: Copy {
     fn reciprocal(self) -> Option<Self>
         ensures { result ≡ ops.reciprocal self };
 
-    fn same(self, other: Self) -> bool
-        ensures { result ≡ ops.same self other };
-
     ghost laws: { Laws ops };
+
+    ghost equal: { (x y : Self) → Self.eq x y ≡ ops.same x y };
 }
 
 /// `base` to the power `exponent`.
+#[tactic(auto, using(crate::proofs::Horner::power_next), unfolding(crate::specs::Field::power))]
 pub fn power<F: Field>(base: F, exponent: u8) -> F
     ensures { result ≡ power_of F.ops base exponent }
 {
@@ -49,43 +50,37 @@ pub fn power<F: Field>(base: F, exponent: u8) -> F
     x
 }
 
-/// A coefficient and x times the value of those above it: one step of Horner's rule.
-fn horner_step<F: Field>(coefficient: F, x: F, above: F) -> F
-    ensures { result ≡ F.ops.sum coefficient (F.ops.product x above) }
-{
-    coefficient.plus(x.times(above))
-}
-
 /// The value at x of the polynomial with these coefficients, lowest power first.
+#[tactic(auto, using(crate::proofs::Horner::horner_last, crate::proofs::Horner::horner_none))]
 pub fn evaluate<F: Field>(coefficients: &[F], x: F) -> F
     ensures { result ≡ value F.ops coefficients.now x }
 {
     let mut sum = F::zero();
-    for i in (0..coefficients.len()).rev() {
-        sum = horner_step(coefficients[i], x, sum);
+    for coefficient in coefficients.iter().rev() {
+        sum = coefficient.plus(x.times(sum));
     }
     sum
 }
 
 /// Whether the polynomial is zero at x.
-fn is_root<F: Field>(coefficients: &[F], x: F) -> bool
+pub fn is_root<F: Field>(coefficients: &[F], x: F) -> bool
     ensures { result ≡ F.ops.same (value F.ops coefficients.now x) F.ops.nought }
 {
-    evaluate(coefficients, x).same(F::zero())
+    evaluate(coefficients, x) == F::zero()
 }
 
 /// The first n, from a given one on and below α's order, for which α^n is a root of the polynomial.
+#[tactic(auto, using(crate::proofs::Roots::root_steps))]
 pub fn first_root<F: Field>(coefficients: &[F], from: usize) -> Option<usize>
     ensures { result ≡ first_root_of F.ops coefficients.now from }
 {
-    let order = F::order() as usize;
-    if from >= order {
-        return None;
-    }
-    let mut x = power(F::alpha(), from as u8);
-    for n in from..order {
+    let order = F::order();
+    let start = u8::try_from(from).ok()?;
+    let mut x = power(F::alpha(), start);
+    // A `find` would have to keep x in its closure, and what a closure that changes gives is not known to the proof.
+    for n in start..order {
         if is_root(coefficients, x) {
-            return Some(n);
+            return Some(usize::from(n));
         }
         x = F::alpha().times(x);
     }

@@ -1,6 +1,6 @@
 -- The generator carried over to another kind of field element.
 use Rattle.std.proofs.Common.{◌≡◌, ℕ, zero, suc, ◌+◌, List, [], ◌∷◌, map, sym, refl, ap, ◌∙◌, ap₂}
-use mathlib.Core.Path.{fun_ext}
+use Rattle.std.proofs.Math.Path.{fun_ext}
 use Rattle.field.specs.Field.{Ops, power, alpha_power, carried}
 use Rattle.field.proofs.Carried.{carried_power}
 use Rattle.polynomial.specs.Coefficients.{plus, scale, times}

@@ -1,6 +1,6 @@
 -- The powers of γ differ where its exponent has an inverse, and what follows of a code: its roots differ, and its codewords lie far apart.
 use Rattle.std.proofs.Common.{◌≡◌, ℕ, zero, suc, ◌+◌, ◌*◌, ◌%◌, ◌<◌, List, [], ◌∷◌, ◌++◌, length, replicate, sym, ap, ◌∙◌, subst, arith}
-use lib.ListN.{length-replicate}
+use Rattle.std.proofs.lemmas.List.{length-replicate}
 use Rattle.field.specs.Field.{power, alpha_power}
 use Rattle.field.specs.Polynomial.{Apart}
 use Rattle.field.proofs.Ring.{Lawful, ring, eq_of_sum, no_divisor, add_self, mul_one, zero_mul}

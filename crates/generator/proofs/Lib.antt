@@ -4,4 +4,4 @@ pub mod Gammas
 pub mod Carrying
 pub mod Computed
 pub mod Steps
-pub mod Copies
+pub mod Lines

@@ -1,10 +1,10 @@
 -- The product of x + f k over some k: its coefficients, its length and its roots.
-use Rattle.std.proofs.Common.{◌≡◌, ℕ, zero, suc, ◌<◌, ◌≤◌, ◌⊎◌, List, [], ◌∷◌, length, refl, ap, ◌∙◌, inl, inr, arith}
+use Rattle.std.proofs.Common.{◌≡◌, ℕ, zero, suc, ◌<◌, ◌⊎◌, List, [], ◌∷◌, length, refl, ap, ◌∙◌, inl, inr, arith}
 use Rattle.std.proofs.lemmas.Bool.{cases_eq}
 use Rattle.field.specs.Polynomial.{value, Vanishes}
 use Rattle.field.proofs.Ring.{Lawful, ring}
 use Rattle.polynomial.specs.Coefficients.{coeff, plus, scale, times, Monic}
-use Rattle.polynomial.proofs.Clauses.{coeffs, clauses, values}
+use Rattle.polynomial.proofs.Clauses.{coeffs, clauses, values, length_plus, length_scale}
 use Rattle.polynomial.proofs.Algebra.{value_times}
 use Rattle.generator.specs.Generator.{product_of}
 
@@ -32,31 +32,14 @@ module _ {K : Type 0} (F : Lawful K) where
       above zero l = absurd (omega arith)
       above (suc i) l = coeff_factor a q (suc i) ∙ simp (clauses, h.above i (omega arith), h.above (suc i) (omega arith), ring)
 
-  length_scale : (a : K) (p : List K) → length (scale F.ops a p) ≡ length p
-  unfolding scale
-  length_scale a [] = refl
-  length_scale a (b ∷ p) = ap suc (length_scale a p)
-
-  length_plus : (p q : List K) → length p ≤ length q → length (plus F.ops p q) ≡ length q
-  unfolding plus
-  length_plus [] q h = refl
-  length_plus (a ∷ p) [] h = absurd (omega arith)
-  length_plus (a ∷ p) (b ∷ q) h = ap suc (length_plus p q (omega arith))
-
-  length_plus_left : (p q : List K) → length q ≤ length p → length (plus F.ops p q) ≡ length p
-  unfolding plus
-  length_plus_left [] [] h = refl
-  length_plus_left [] (b ∷ q) h = absurd (omega arith)
-  length_plus_left (a ∷ p) [] h = refl
-  length_plus_left (a ∷ p) (b ∷ q) h = ap suc (length_plus_left p q (omega arith))
-
   length_factor : (a : K) (q : List K) → 0 < length q → length (times F.ops (a ∷ 𝟏 ∷ []) q) ≡ suc (length q)
   unfolding times
   length_factor a q h =
-      let e = length_scale 𝟏 q in
-      let e' = length_scale a q in
-      let inner : length (plus F.ops (scale F.ops 𝟏 q) (𝟎 ∷ [])) ≡ length q = length_plus_left _ _ (omega arith) ∙ e in
-      length_plus _ _ (omega arith) ∙ ap suc inner
+      let e = length_scale F.ops 𝟏 q in
+      let e' = length_scale F.ops a q in
+      let inner = length_plus F.ops (scale F.ops 𝟏 q) (𝟎 ∷ []) in
+      let whole = length_plus F.ops (scale F.ops a q) (𝟎 ∷ plus F.ops (scale F.ops 𝟏 q) (𝟎 ∷ [])) in
+      omega arith
 
   module _ (f : ℕ → K) where
     pub monic_product : (n : ℕ) → Monic F.ops (product_of F.ops f n) n

@@ -1,5 +1,5 @@
 -- Steps of multiplying factors out in place.
-use Rattle.std.proofs.Common.{◌≡◌, ℕ, zero, suc, ◌+◌, ◌<◌, ◌≤◌, ◌⊎◌, List, [], ◌∷◌, length, get_or, set, replicate, sym, refl, ap, ◌∙◌, subst, ap₂, inl, inr, add-one, arith, length-set}
+use Rattle.std.proofs.Common.{◌≡◌, ℕ, zero, suc, ◌+◌, ◌<◌, ◌≤◌, ◌⊎◌, List, [], ◌∷◌, length, get_or, set, replicate, sym, refl, ap, ◌∙◌, subst, ap₂, inl, inr, add-one, arith}
 use Rattle.std.proofs.lemmas.Bool.{cases_eq, cases_lt}
 use Rattle.field.proofs.Ring.{Lawful, add_comm}
 use Rattle.polynomial.specs.Coefficients.{coeff, Same}
@@ -15,12 +15,11 @@ module _ {K : Type 0} (F : Lawful K) where
   infixl 70 ◌⊗◌
   -- The first i coefficients are those of (x + a)·start, and the others those of `start`.
   pub record Partly (start buffer : List K) (a : K) (i : ℕ) : Type 0 where
-    pub long : length buffer ≡ length start
     pub done : (k : ℕ) → k < i → coeff F.ops buffer k ≡ coeff F.ops (𝟎 ∷ start) k ⊕ a ⊗ coeff F.ops start k
     pub left : (k : ℕ) → i ≤ k → coeff F.ops buffer k ≡ coeff F.ops start k
 
   pub partly_none : (start : List K) (a : K) → Partly start start a 0
-  partly_none start a = record { long = refl; done = λ k h. absurd (omega arith); left = λ k h. refl }
+  partly_none start a = record { done = λ k h. absurd (omega arith); left = λ k h. refl }
 
   module _ (start buffer : List K) (a here below p v : K) (i : ℕ) (within : i < length buffer) (read : here ≡ get_or buffer i here)
       (held : below ≡ coeff F.ops (𝟎 ∷ start) i) (product_told : p ≡ a ⊗ get_or buffer i here) (sum_told : v ≡ below ⊕ p) (so_far : Partly start buffer a i) where
@@ -31,7 +30,7 @@ module _ {K : Type 0} (F : Lawful K) where
     held_next = here_is ∙ sym (ap (coeff F.ops (𝟎 ∷ start)) (add-one i) ∙ coeff_suc F.ops 𝟎 start i)
 
     pub partly_next : Partly start (set buffer i v) a (i + 1)
-    partly_next = record { long = length-set buffer i v ∙ so_far.long; done = λ k h. done k h (cases_eq k i); left = λ k h. coeff_set_other F.ops buffer i k v (λ e. omega arith) ∙ so_far.left k (omega arith) }
+    partly_next = record { done = λ k h. done k h (cases_eq k i); left = λ k h. coeff_set_other F.ops buffer i k v (λ e. omega arith) ∙ so_far.left k (omega arith) }
       where
         done : (k : ℕ) → k < i + 1 → (k ≡ i) ⊎ (k ≡ i → ⊥) → coeff F.ops (set buffer i v) k ≡ coeff F.ops (𝟎 ∷ start) k ⊕ a ⊗ coeff F.ops start k
         done k h (inl e) =
@@ -40,15 +39,11 @@ module _ {K : Type 0} (F : Lawful K) where
             ∙ sym (ap (λ n. coeff F.ops (𝟎 ∷ start) n ⊕ a ⊗ coeff F.ops start n) e)
         done k h (inr ne) = coeff_set_other F.ops buffer i k v ne ∙ so_far.done k (omega arith)
 
-  pub partly_all : (start buffer : List K) (a : K) (i : ℕ) → length start ≤ i → Partly start buffer a i → Multiplied F.ops a start buffer
-  partly_all start buffer a i all so_far = record { long = so_far.long; each = λ k h. so_far.done k (omega arith) }
-
   -- One factor more.
   module _ (f : ℕ → K) where
-    pub factor_none : (n : ℕ) (start : List K) (one : K) → start ≡ replicate (n + 1) 𝟎 → one ≡ 𝟏 → Same F.ops (set start 0 one) (product_of F.ops f 0)
+    pub factor_none : (n : ℕ) (zero' one : K) → zero' ≡ 𝟎 → one ≡ 𝟏 → Same F.ops (one ∷ replicate n zero') (product_of F.ops f 0)
     unfolding product_of
-    factor_none n start one zeros is i =
-        ap (λ l. coeff F.ops (set l 0 one) i) (zeros ∙ ap (λ l. replicate l 𝟎) (add-one n)) ∙ go i
+    factor_none n zero' one none is i = ap (λ z. coeff F.ops (one ∷ replicate n z) i) none ∙ go i
       where
         go : (i : ℕ) → coeff F.ops (one ∷ replicate n 𝟎) i ≡ coeff F.ops (𝟏 ∷ []) i
         go zero = simp (clauses, is)

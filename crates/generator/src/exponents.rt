@@ -1,19 +1,12 @@
 //! The generator in exponent form: the exponents of its coefficients, and their text.
-ghost use Rattle.std.specs.Prelude.{◌≡◌, ◌∷◌, ◌++◌, map, IfOk, Some, string_bytes};
-ghost use Rattle.generator.specs.Forms.{logarithm, number as number_of};
+ghost use Rattle.std.specs.Prelude.{◌≡◌, map, IfOk, Some, string_bytes};
+ghost use Rattle.generator.specs.Forms.{number as number_of};
 ghost use Rattle.generator.specs.Generator.{exponents as listed_exponents};
-ghost use Rattle.generator.specs.Text.{shown, joined, line as line_of};
+ghost use Rattle.generator.specs.Text.{shown, line as line_of};
 
 use crate::expansion::{COEFFICIENTS, generator};
 use exponent_form::Logarithm;
 use std::alloc::{AllocError, Global};
-
-/// The generator in exponent form.
-fn in_exponent_form() -> [Logarithm; COEFFICIENTS]
-    ensures { result ≡ map logarithm listed_exponents }
-{
-    generator()
-}
 
 /// The exponent of an element; none of zero.
 fn exponent_of(element: Logarithm) -> Option<u8>
@@ -25,26 +18,14 @@ fn exponent_of(element: Logarithm) -> Option<u8>
     }
 }
 
-/// Writes down the exponents of the elements.
-fn write_exponents(numbers: &mut [Option<u8>; COEFFICIENTS], elements: &[Logarithm; COEFFICIENTS])
-    ensures { numbers.new ≡ map number_of elements.now }
-{
-    for i in 0..COEFFICIENTS {
-        numbers[i] = exponent_of(elements[i]);
-    }
-}
-
 /// The exponents of the generator's coefficients, lowest power first: each coefficient is a power of α.
 pub fn coefficient_exponents() -> [Option<u8>; COEFFICIENTS]
     ensures { result ≡ map Some listed_exponents }
 {
-    let elements = in_exponent_form();
-    let mut numbers = [None; COEFFICIENTS];
-    write_exponents(&mut numbers, &elements);
-    numbers
+    generator().map(exponent_of)
 }
 
-/// The text of an exponent; a star of zero.
+/// The text of an exponent; a star where there is none.
 fn word(heap: Global, exponent: Option<u8>) -> Result<String, AllocError>
     ensures { IfOk result (λ s. string_bytes s ≡ shown exponent) }
 {
@@ -54,30 +35,18 @@ fn word(heap: Global, exponent: Option<u8>) -> Result<String, AllocError>
     }
 }
 
-/// The text with a blank and one exponent more.
-fn with_next(heap: Global, text: String, exponent: Option<u8>) -> Result<String, AllocError>
-    ensures { IfOk result (λ s. string_bytes s ≡ string_bytes text ++ 32 ∷ shown exponent) }
-{
-    let next = word(heap, exponent)?;
-    format!(in heap; "{text} {next}")
-}
-
-/// The exponents with one blank between them.
-fn words(heap: Global, exponents: &[Option<u8>; COEFFICIENTS]) -> Result<String, AllocError>
-    ensures { IfOk result (λ s. string_bytes s ≡ joined exponents.now) }
-{
-    let mut text = word(heap, exponents[0])?;
-    for i in 1..COEFFICIENTS {
-        text = with_next(heap, text, exponents[i])?;
-    }
-    Ok(text)
-}
-
 /// The exponents in one line, with one blank between them and a line feed last.
-fn line(heap: Global, exponents: &[Option<u8>; COEFFICIENTS]) -> Result<String, AllocError>
+fn line(heap: Global, exponents: &[Option<u8>]) -> Result<String, AllocError>
     ensures { IfOk result (λ s. string_bytes s ≡ line_of exponents.now) }
 {
-    let text = words(heap, exponents)?;
+    let [first, rest @ ..] = exponents else {
+        return format!(in heap; "\n");
+    };
+    let mut text = word(heap, *first)?;
+    for exponent in rest {
+        let next = word(heap, *exponent)?;
+        text = format!(in heap; "{text} {next}")?;
+    }
     format!(in heap; "{text}\n")
 }
 
@@ -85,6 +54,5 @@ fn line(heap: Global, exponents: &[Option<u8>; COEFFICIENTS]) -> Result<String, 
 pub fn coefficients_line(heap: Global) -> Result<String, AllocError>
     ensures { IfOk result (λ s. string_bytes s ≡ line_of (map Some listed_exponents)) }
 {
-    let exponents = coefficient_exponents();
-    line(heap, &exponents)
+    line(heap, &coefficient_exponents())
 }

@@ -18,6 +18,7 @@ pub fn generators_stand<F: Field>()
 {}
 
 /// The coefficients are the listed powers of α in every form: a theorem, with nothing to compute.
+#[tactic(auto, using(crate::proofs::Computed::listed_forms))]
 pub fn listed_forms_stand()
     ensures { ListedForms }
 {}

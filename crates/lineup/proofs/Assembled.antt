@@ -1,14 +1,13 @@
 -- The lanes of what is assembled, and the whole text of a plan.
-use Rattle.std.proofs.Common.{◌≡◌, ℕ, zero, suc, ◌+◌, ◌-◌, ◌<◌, ◌≤◌, min, Bool, true, false, cond, eqb, List, [], ◌++◌, length, get_or, take, replicate, sym, refl, ap, ◌∙◌, ap₂, ⊎_elim, arith}
+use Rattle.std.proofs.Common.{◌≡◌, ℕ, zero, suc, ◌+◌, ◌<◌, ◌≤◌, min, true, false, eqb, List, [], ◌++◌, length, get_or, take, replicate, sym, refl, ap, ◌∙◌, ap₂, ⊎_elim, arith}
 use lib.ListN.{length-replicate}
 use Rattle.std.proofs.lemmas.List.{append-nil, length-append, length-take, take_all, replicate-append-replicate, take-replicate}
 use Rattle.std.proofs.lemmas.Bool.{eqb-true, eqb-false, ne_eqb, cases_lt}
 use Rattle.bank.specs.Lanes.{zeros, beside}
 use Rattle.bank.specs.declared.pair.Pair.{Pair}
-use Rattle.rack.specs.declared.choice.Choice.{Choice}
 use Rattle.rack.specs.declared.kind.Kind.TheVariants.{Table}
-use Rattle.rack.specs.declared.row.Rack.{Rack}
-use Rattle.lineup.specs.Built.{rack_lanes, assembly_lanes}
+use Rattle.rack.specs.Dividers.{Rack}
+use Rattle.lineup.specs.Built.{rack_lanes}
 use Rattle.lineup.specs.Kinds.{first_eight}
 use Rattle.lineup.proofs.Texts.{same_behind, no_bytes}
 use Rattle.lineup.specs.Plans.{Plan, table, serial, tables, pair, holder, plan_text, Within, dividers_of, lanes_of, is_holder, Begins, BeginsNone}
@@ -20,29 +19,12 @@ beside_zeros a b = ap (take 8) (replicate-append-replicate a b zeros)
 short : (n : ℕ) → n ≤ 8 → take 8 (replicate n zeros) ≡ replicate n zeros
 short n h = take_all 8 (replicate n zeros) (omega (arith, length-replicate n zeros))
 
--- One rack alone, or all but the last and the last.
-pub lanes_assembled : (count before : ℕ) (single left right : Rack) (both : Pair Rack Rack) (c : Choice Rack (Pair Rack Rack))
-    → 0 < count → count ≤ 8 → before ≡ cond (eqb count 1) 1 (count - 1)
-    → rack_lanes single ≡ replicate 1 zeros → rack_lanes left ≡ replicate before zeros → rack_lanes right ≡ replicate 1 zeros
-    → both.left ≡ left → both.right ≡ right → c.first ≡ single → c.second ≡ both → c.is_first ≡ eqb count 1
-    → assembly_lanes c ≡ replicate count zeros
-lanes_assembled count before single left right both c some few b s l r bl br cf cs ci = go (eqb count 1) refl
-  where
-    alone : (t : Bool) → c.is_first ≡ t → t ≡ true → assembly_lanes c ≡ rack_lanes single
-    alone t p q = ap (λ u. cond u (rack_lanes c.first) (beside (rack_lanes c.second.left) (rack_lanes c.second.right))) (p ∙ q) ∙ ap rack_lanes cf
-
-    paired : (t : Bool) → c.is_first ≡ t → t ≡ false → assembly_lanes c ≡ beside (rack_lanes left) (rack_lanes right)
-    paired t p q =
-        ap (λ u. cond u (rack_lanes c.first) (beside (rack_lanes c.second.left) (rack_lanes c.second.right))) (p ∙ q)
-        ∙ ap₂ (λ x y. beside (rack_lanes x) (rack_lanes y)) (ap (λ p. p.left) cs ∙ bl) (ap (λ p. p.right) cs ∙ br)
-
-    go : (t : Bool) → eqb count 1 ≡ t → assembly_lanes c ≡ replicate count zeros
-    go true e = alone (eqb count 1) ci e ∙ s ∙ ap (λ n. replicate n zeros) (sym (eqb-true count 1 e))
-    go false e =
-        let n : before ≡ count - 1 = b ∙ ap (λ t. cond t 1 (count - 1)) e in
-        let all : before + 1 ≡ count = omega (arith, n) in
-        paired (eqb count 1) ci e ∙ ap₂ beside l r ∙ beside_zeros before 1 ∙ ap (λ n. take 8 (replicate n zeros)) all
-        ∙ short count few
+-- A rack of all but the last beside one of the last.
+pub lanes_beside : (n count : ℕ) (left right : Rack) (both : Pair Rack Rack) → n + 1 ≡ count → count ≤ 8 → rack_lanes left ≡ replicate n zeros
+    → rack_lanes right ≡ replicate 1 zeros → both.left ≡ left → both.right ≡ right
+    → beside (rack_lanes both.left) (rack_lanes both.right) ≡ replicate count zeros
+lanes_beside n count left right both all few l r bl br =
+    ap₂ beside (ap rack_lanes bl ∙ l) (ap rack_lanes br ∙ r) ∙ beside_zeros n 1 ∙ short (n + 1) (omega arith) ∙ ap (λ m. replicate m zeros) all
 
 cut : (m : ℕ) → take 8 (replicate m zeros) ≡ replicate (min 8 m) zeros
 cut m =

@@ -1,31 +1,32 @@
 -- What the front of a text says of a bank, byte by byte.
-use Rattle.std.proofs.Common.{◌≡◌, ℕ, zero, suc, ◌+◌, ◌-◌, ◌<◌, ◌≤◌, List, [], ◌∷◌, ◌++◌, length, get_or, take, drop, sym, refl, ap, ◌∙◌, subst, arith}
-use Rattle.std.proofs.lemmas.List.{append_assoc, take_rest}
+use Rattle.std.proofs.Common.{◌≡◌, Bor, nat_eq, true, false, Some, None, ℕ, zero, suc, ◌+◌, ◌-◌, ◌<◌, ◌≤◌, List, [], ◌∷◌, ◌++◌, length, take, drop, sym, refl, ap, ◌∙◌, subst, arith}
+use Rattle.std.specs.Cmp.Lexicographic.{pointwise}
+use Rattle.std.proofs.lemmas.Bool.Decides.{Decides-eqb}
+use Rattle.std.proofs.lemmas.List.{append_assoc}
+use Rattle.std.proofs.lemmas.Slice.Eq.{strip_prefix_is}
 use Rattle.lineup.specs.Plans.{Plan, table, serial, tables, pair, holder, plan_text, Within, Begins, BeginsNone}
-
--- A text that is not empty, as a slice's pattern takes it apart.
-pub taken_apart : (text : List ℕ) → 0 < length text → text ≡ get_or text 0 0 ∷ take (length text - 1) (drop 1 text)
-taken_apart [] h = absurd (omega arith)
-taken_apart (x ∷ xs) h = ap (λ l. x ∷ l) (sym (take_rest (x ∷ xs) 1))
 
 pub no_bytes : (text : List ℕ) → length text ≤ 0 → text ≡ []
 no_bytes [] h = refl
 no_bytes (x ∷ xs) h = absurd (omega arith)
 
+-- What is told of a text's first byte by taking it off.
+pub unlike : (text : List ℕ) (byte : ℕ) → pointwise nat_eq (take 1 text) (byte ∷ []) ≡ false → (rest : List ℕ) → text ≡ byte ∷ rest → ⊥
+unlike text byte h = strip_prefix_is Decides-eqb text (byte ∷ []) None h
+
+pub stripped : (text : List ℕ) (byte : ℕ) (rest : Bor (List ℕ))
+    → (pointwise nat_eq (take 1 text) (byte ∷ []) ≡ true) × (rest.now ≡ drop 1 text) × (length rest.now + 1 ≡ length text) → text ≡ byte ∷ rest.now
+stripped text byte rest h = strip_prefix_is Decides-eqb text (byte ∷ []) (Some rest) h
+
 -- The number below suc n.
 less : (n : ℕ) → suc n - 1 ≡ n
 less n = omega arith
 
-behind : List ℕ → List ℕ
-behind [] = []
-behind (x ∷ xs) = xs
-
 same_rest : {x y : ℕ} {xs ys : List ℕ} → x ∷ xs ≡ y ∷ ys → xs ≡ ys
-unfolding behind
-same_rest e = ap behind e
+same_rest e = cc
 
 same_first : {x y : ℕ} {xs ys : List ℕ} → x ∷ xs ≡ y ∷ ys → x ≡ y
-same_first e = ap (λ l. get_or l 0 0) e
+same_first e = cc
 
 pair_text : (x y : Plan) (s : List ℕ) → plan_text (pair x y) ++ s ≡ 40 ∷ (plan_text x ++ 44 ∷ (plan_text y ++ 41 ∷ s))
 unfolding plan_text

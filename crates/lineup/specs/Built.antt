@@ -1,11 +1,11 @@
 -- The bank that is built for a text.
-use Rattle.std.specs.Prelude.{◌≡◌, ℕ, cond, List, ◌≢◌}
+use Rattle.std.specs.Prelude.{◌≡◌, ℕ, List, ◌≢◌}
 use Rattle.bank.specs.Lanes.{Lanes, beside, all_cleared, held}
 use Rattle.bank.specs.declared.pair.Pair.{Pair}
-use Rattle.rack.specs.Dividers.{divider_lanes}
-use Rattle.rack.specs.Rows.{in_row}
+use Rattle.rack.specs.Dividers.{Rack, divider_lanes}
+use Rattle.rack.specs.Rows.{row}
+use Rattle.rack.specs.Choices.{choice_lanes}
 use Rattle.rack.specs.declared.choice.Choice.{Choice}
-use Rattle.rack.specs.declared.row.Rack.{Rack}
 use Rattle.lineup.specs.declared.built.Built.{Built}
 use Rattle.lineup.specs.Plans.{Plan, plan_text, Within, lanes_of, is_holder}
 
@@ -15,11 +15,11 @@ deepest = 64
 
 -- The lanes of a rack.
 abbrev pub rack_lanes : Rack → Lanes
-rack_lanes r = in_row divider_lanes r.rows r.used
+rack_lanes r = row divider_lanes r.banks.items
 
 -- The lanes of one rack, or of two side by side.
 abbrev pub assembly_lanes : Choice Rack (Pair Rack Rack) → Lanes
-assembly_lanes c = cond c.is_first (rack_lanes c.first) (beside (rack_lanes c.second.left) (rack_lanes c.second.right))
+assembly_lanes c = choice_lanes rack_lanes (λ p. beside (rack_lanes p.left) (rack_lanes p.right)) c
 
 -- The lanes and the copy of what is built.
 abbrev pub built_lanes : Built → Lanes

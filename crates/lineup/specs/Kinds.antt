@@ -9,8 +9,8 @@ unfoldable pub first_eight : {A : Type 0} → List A → List A
 first_eight xs = take 8 xs
 
 -- The kinds that are held.
-unfoldable pub listed : Kinds → List Kind
-listed k = take k.count k.kinds
+abbrev pub listed : Kinds → List Kind
+listed k = k.kinds.items
 
 -- A plan was read from the front of a text, and its dividers were listed behind others.
 pub record Listed (n : ℕ) (text rest : List ℕ) (before after : Kinds) : Type 0 where

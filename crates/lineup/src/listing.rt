@@ -4,7 +4,7 @@ ghost use Rattle.rack.specs.declared.kind.Kind.TheVariants.{Table};
 ghost use Rattle.lineup.specs.Kinds.{first_eight, listed};
 
 use crate::kinds::Kinds;
-use bank::LANES;
+use arrayvec::ArrayVec;
 use rack::Kind;
 
 impl Kinds {
@@ -13,8 +13,7 @@ impl Kinds {
         ensures { listed result ≡ [] }
     {
         Kinds {
-            kinds: [Kind::Table; LANES],
-            count: 0,
+            kinds: ArrayVec::new(),
         }
     }
 
@@ -22,17 +21,14 @@ impl Kinds {
     pub(crate) fn push(&mut self, kind: Kind)
         ensures { listed self.new ≡ first_eight (listed self.old ++ (kind ∷ [])) }
     {
-        if self.count < LANES {
-            self.kinds[self.count] = kind;
-            self.count += 1;
-        }
+        let _ = self.kinds.try_push(kind);
     }
 
     /// Adds n table dividers.
     pub(crate) fn push_tables(&mut self, n: u8)
         ensures { listed self.new ≡ first_eight (listed self.old ++ replicate n Table) }
     {
-        for _i in 0..n {
+        for _ in 0..n {
             self.push(Kind::Table);
         }
     }

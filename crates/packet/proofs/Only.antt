@@ -1,6 +1,6 @@
 -- A walk that ends without a fault is one over well-formed packets.
-use Rattle.std.proofs.Common.{◌≡◌, ℕ, zero, suc, ◌+◌, ◌<◌, ◌≤◌, eqb, ltb, List, [], ◌∷◌, ◌++◌, length, take, drop, replicate, is_ok, Ok, Err, Result, sym, refl, ap, ◌∙◌, subst, append_assoc, arith, ltb-false, eqb-true}
-use borrow.Author.Tests.{eqb-false, clash}
+use Rattle.std.proofs.Common.{◌≡◌, ℕ, zero, suc, ◌+◌, ◌<◌, ◌≤◌, eqb, ltb, List, [], ◌∷◌, ◌++◌, length, take, drop, replicate, Ok, sym, refl, ap, ◌∙◌, subst, append_assoc, arith, ltb-false, eqb-true}
+use borrow.Author.Tests.{eqb-false}
 use Rattle.std.proofs.ByRecursion.{All-take, All-drop}
 use Rattle.std.proofs.lemmas.List.{length-take, length-drop, take-append-drop, drop_at}
 use Rattle.std.proofs.lemmas.Bool.{cond_both}
@@ -8,7 +8,6 @@ use Rattle.packet.specs.Packets.{Packet, Bytes, WellFormed, longest_label, packe
 use Rattle.packet.specs.Reading.{Step, packet, end, fault, filled, from_data, from_label, from_feed, size}
 use Rattle.packet.specs.Items.{items_from, counted}
 use Rattle.packet.specs.Laws.{Consists, OnlyPackets}
-use Rattle.packet.specs.declared.fault.PacketFault.{PacketFault}
 use Rattle.packet.proofs.Items.{items_more, items_done}
 use Rattle.packet.proofs.Steps.{from_feed_inside}
 use Rattle.packet.proofs.Back.{length_packet_symbols}
@@ -70,13 +69,6 @@ from_feed_says p (f ∷ bs) w =
 abbrev Walked : (n m : ℕ) → List ℕ → Type 0
 Walked n m bs = (ps : List Packet) × Consists bs ps × (n + length ps ≡ m)
 
-abbrev the_count : Result ℕ PacketFault → ℕ
-the_count (Ok n) = n
-the_count (Err f) = 0
-
-no_fault : (f : PacketFault) (m : ℕ) → Err f ≡ Ok m → ⊥
-no_fault f m e = clash (ap is_ok e)
-
 -- A packet in front of bytes that are walked to the end.
 walked_packet : (n m : ℕ) (bs rest : List ℕ) (x : Packet) → WellFormed x → bs ≡ packet_symbols x ++ rest → Walked (n + 1) m rest → Walked n m bs
 walked_packet n m bs rest x well e (ps, c, count) =
@@ -98,9 +90,10 @@ walked_from n m p bs (packet x q) w is e more =
     walked_packet n m bs (drop k bs) x says.0 says.1 (more (p + k) (drop k bs) shorter (All-drop (λ b. b < 256) k bs w) behind)
 walked_from n m p bs (end q) w is e more =
     let zeros : Says bs (end q) = subst (Says bs) is (from_feed_says p bs w) in
-    let same : n ≡ m = ap the_count (sym (ap (counted n) (items_done p bs (end q) is refl)) ∙ e) in
+    let done = ap (counted n) (items_done p bs (end q) is refl) in
+    let same : n ≡ m = cc in
     ([], record { well_formed = tt; fill = length bs; is = zeros }, omega (arith, same))
-walked_from n m p bs (fault f) w is e more = absurd (no_fault f m (sym (ap (counted n) (items_done p bs (fault f) is refl)) ∙ e))
+walked_from n m p bs (fault f) w is e more = let done = ap (counted n) (items_done p bs (fault f) is refl) in cc
 
 walked : (b n m p : ℕ) (bs : List ℕ) → length bs < b → Bytes bs → counted n (items_from 0 p bs) ≡ Ok m → Walked n m bs
 walked zero n m p bs h w e = absurd (omega arith)

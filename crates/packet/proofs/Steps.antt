@@ -1,52 +1,23 @@
--- What stands at the front of bytes, by what the first of them are, and that it takes no more bytes than there are.
-use Rattle.std.proofs.Common.{◌≡◌, ℕ, ◌+◌, ◌-◌, ◌<◌, ◌≤◌, cond, eqb, ltb, List, [], ◌∷◌, length, get_or, take, drop, refl, arith, ltb-false, le-ltb, eq-eqb, ne_eqb}
-use Rattle.std.proofs.lemmas.List.{take_rest, length-take, length-drop, at_drop_more, at_drop_all}
+-- The bytes behind the end, and that what stands at the front of bytes takes no more of them than there are.
+use Rattle.std.proofs.Common.{◌≡◌, ℕ, ◌+◌, ◌<◌, ◌≤◌, zero, suc, eqb, ltb, List, [], ◌∷◌, length, get_or, take, drop, refl, ap, ◌∙◌, add-zero, arith, ltb-false, eq-eqb, ne_eqb}
+use Rattle.std.proofs.lemmas.List.{length-take, length-drop}
 use Rattle.std.proofs.lemmas.Bool.{cond_both}
 use Rattle.packet.specs.Packets.{longest_label}
-use Rattle.packet.specs.Reading.{Cut, packet, end, fault, filled, from_data, from_label, from_feed, step_at, size}
+use Rattle.packet.specs.Reading.{packet, end, fault, filled, from_data, from_label, from_feed, step_at, size}
 use Rattle.packet.specs.declared.fault.PacketFault.TheVariants.{LabelCount, NoData, PastEnd, AfterEnd}
 
--- The bytes of a slice behind its first i, as a pattern or a range gives them.
-abbrev pub behind : ℕ → List ℕ → List ℕ
-behind i bs = take (length bs - i) (drop i bs)
+-- Every byte is 00.
+pub filled_all : (p q : ℕ) (bs : List ℕ) → ((k : ℕ) → k < length bs → get_or bs k 0 ≡ 0) → filled p q bs ≡ end p
+filled_all p q [] zeros = refl
+filled_all p q (b ∷ bs) zeros = rw (eq-eqb b 0 (zeros 0 (omega arith))) (filled_all p (q + 1) bs (λ k h. zeros (suc k) (omega arith)))
 
--- A feed byte 00 is the end.
-pub feed_zero : (p : ℕ) (bs : List ℕ) → 0 < length bs → get_or bs 0 0 ≡ 0 → filled p (p + 1) (behind 1 bs) ≡ from_feed p bs
-feed_zero p [] h e = absurd (omega arith)
-feed_zero p (f ∷ bs) h e = rw (take_rest (f ∷ bs) 1, eq-eqb f 0 e)
-
--- Another feed byte is followed by the label count.
-pub feed_read :
-    (p : ℕ) (bs : List ℕ) → 1 < length bs → (get_or bs 0 0 ≡ 0 → ⊥) → from_label p (get_or bs 0 0) (get_or bs 1 0 ∷ behind 2 bs) ≡ from_feed p bs
-feed_read p [] h ne = absurd (omega arith)
-feed_read p (f ∷ []) h ne = absurd (omega arith)
-feed_read p (f ∷ n ∷ bs) h ne = rw (take_rest (f ∷ n ∷ bs) 2, ne_eqb f 0 ne)
-
--- A data count other than 0 that the bytes behind it suffice for gives the packet.
-pub data_read :
-    (p f : ℕ) (label bs body rest : List ℕ) → 0 < length bs → (get_or bs 0 0 ≡ 0 → ⊥) → Cut (get_or bs 0 0) (behind 1 bs) body rest
-    → packet (record { feed = f; label = label; body = body }) p ≡ from_data p f label bs
-data_read p f label [] body rest h ne c = absurd (omega arith)
-data_read p f label (n ∷ bs) body rest h ne c =
-    let r = take_rest (n ∷ bs) 1 in
-    let fits : n ≤ length bs = rw r at c.fits in
-    rw (c.first, r, ne_eqb n 0 ne, le-ltb (length bs) n fits)
-
--- The first byte is not 00.
-pub filled_stop : (p q : ℕ) (bs : List ℕ) (i : ℕ) → i < length bs → (get_or bs i 0 ≡ 0 → ⊥) → filled p q (drop i bs) ≡ fault (AfterEnd q)
-filled_stop p q bs i h ne =
-    let e : filled p q (drop i bs) ≡ cond (eqb (get_or bs i 0) 0) (filled p (q + 1) (drop (i + 1) bs)) (fault (AfterEnd q)) = at_drop_more (filled p q) bs i 0 h in
-    rw (e, ne_eqb (get_or bs i 0) 0 ne)
-
--- The first byte is 00.
-pub filled_more : (p q : ℕ) (bs : List ℕ) (i : ℕ) → i < length bs → get_or bs i 0 ≡ 0 → filled p q (drop i bs) ≡ filled p (q + 1) (drop (i + 1) bs)
-filled_more p q bs i h z =
-    let e : filled p q (drop i bs) ≡ cond (eqb (get_or bs i 0) 0) (filled p (q + 1) (drop (i + 1) bs)) (fault (AfterEnd q)) = at_drop_more (filled p q) bs i 0 h in
-    rw (e, eq-eqb (get_or bs i 0) 0 z)
-
--- There is no byte.
-pub filled_all : (p q : ℕ) (bs : List ℕ) (i : ℕ) → length bs ≤ i → filled p q (drop i bs) ≡ end p
-filled_all p q bs i h = at_drop_all (filled p q) bs i h
+-- The byte i is the first that is not 00.
+pub filled_stop : (p q : ℕ) (bs : List ℕ) (i : ℕ) → i < length bs → (get_or bs i 0 ≡ 0 → ⊥) → ((k : ℕ) → k < i → get_or bs k 0 ≡ 0) → filled p q bs ≡ fault (AfterEnd (q + i))
+filled_stop p q [] i inside other zeros = absurd (omega arith)
+filled_stop p q (b ∷ bs) zero inside other zeros = rw (ne_eqb b 0 other, add-zero)
+filled_stop p q (b ∷ bs) (suc i) inside other zeros =
+    let at : q + 1 + i ≡ q + suc i = omega arith in
+    rw (eq-eqb b 0 (zeros 0 (omega arith))) (filled_stop p (q + 1) bs i (omega arith) other (λ k h. zeros (suc k) (omega arith)) ∙ ap (λ n. fault (AfterEnd n)) at)
 
 -- What is read takes no more bytes than there are.
 from_data_inside : (p f : ℕ) (label bs : List ℕ) → size (from_data p f label bs) ≤ 2 + length label + length bs

@@ -1,16 +1,10 @@
 -- What stands at a place of a message: its bytes in reading order, where the first rule that is broken decides.
-use Rattle.std.specs.Prelude.{◌≡◌, ℕ, ◌+◌, ◌≤◌, cond, List, [], ◌∷◌, length, take, drop, Ok, Err, Result, ◌==◌, nat_lt}
+use Rattle.std.specs.Prelude.{ℕ, ◌+◌, cond, List, [], ◌∷◌, length, take, drop, Ok, Err, Result, ◌==◌, nat_lt}
 use Rattle.packet.specs.Packets.{Packet, longest_label}
 use Rattle.packet.specs.declared.fault.PacketFault.{PacketFault}
 use Rattle.packet.specs.declared.fault.PacketFault.TheVariants.{LabelCount, NoData, PastEnd, AfterEnd}
 use Rattle.packet.specs.declared.item.Item.{Item}
 use Rattle.packet.specs.declared.item.Item.TheVariants as item
-
--- The front is the first n bytes, and the back those behind them.
-pub record Cut (n : ℕ) (bytes front back : List ℕ) : Type 0 where
-  pub fits : n ≤ length bytes
-  pub first : front ≡ take n bytes
-  pub others : back ≡ drop n bytes
 
 -- A step of the walk: a packet with its place, the end with its place, or a fault.
 pub data Step : Type 0 where

@@ -33,10 +33,10 @@ impl PacketFault {
         ensures { result ≡ fault_place self }
     {
         match self {
-            PacketFault::LabelCount { place } => place,
-            PacketFault::NoData { place } => place,
-            PacketFault::PastEnd { place } => place,
-            PacketFault::AfterEnd { place } => place,
+            PacketFault::LabelCount { place }
+            | PacketFault::NoData { place }
+            | PacketFault::PastEnd { place }
+            | PacketFault::AfterEnd { place } => place,
         }
     }
 }

@@ -1,7 +1,8 @@
 //! What a walk over a message hands out.
 
 /// A packet, as parts of the message that it stands in, or the end of the packets; places count the message's bytes from 0.
-#[derive(Clone, Copy, Debug)]
+// No Option of a packet: the end is told with its place, too.
+#[derive(Clone, Copy, Debug, PartialEq, Eq)]
 pub enum Item<'a> {
     /// The packet whose feed byte stands at the place.
     Packet {

@@ -1,6 +1,6 @@
 //! What stands at a place of a message.
-ghost use Rattle.std.specs.Prelude.{◌≡◌, ◌+◌, ◌^◌, ◌<◌, ◌≤◌, ◌∷◌, length, MatchOption};
-ghost use Rattle.packet.specs.Reading.{Cut, told, filled, from_data, from_label, from_feed, step_at, size};
+ghost use Rattle.std.specs.Prelude.{◌≡◌, ◌+◌, ◌^◌, ◌<◌, ◌≤◌, ◌∷◌, length};
+ghost use Rattle.packet.specs.Reading.{told, filled, from_data, from_label, from_feed, step_at, size};
 
 use crate::fault::PacketFault;
 use crate::item::Item;
@@ -8,26 +8,17 @@ use crate::item::Item;
 /// The length of the longest label.
 const LABEL_MAX: u8 = 16;
 
-/// The first `count` bytes and those behind them, if there are so many.
-fn cut(bytes: &[u8], count: u8) -> Option<(&[u8], &[u8])>
-    ensures { MatchOption result (length bytes.now < count) (λ p. Cut count bytes.now p.0.now p.1.now) }
-{
-    bytes.split_at_checked(usize::from(count))
-}
-
 /// The end at `place`, if each byte behind it is 00.
 fn end_at<'a>(place: usize, fill: &[u8]) -> Result<Item<'a>, PacketFault>
     requires { place + 1 + length fill.now < 2 ^ 64 }
     ensures { told result ≡ filled place (place + 1) fill.now }
 {
-    for (i, byte) in fill.iter().enumerate() {
-        if *byte != 0 {
-            return Err(PacketFault::AfterEnd {
-                place: place + 1 + i,
-            });
-        }
+    match fill.iter().position(|byte| *byte != 0) {
+        Some(i) => Err(PacketFault::AfterEnd {
+            place: place + 1 + i,
+        }),
+        None => Ok(Item::End { place }),
     }
-    Ok(Item::End { place })
 }
 
 /// The packet at `place` with this feed and label; `rest` begins with its data count.
@@ -45,15 +36,17 @@ fn with_data<'a>(
         [0, ..] => Err(PacketFault::NoData {
             place: place + 2 + label.len(),
         }),
-        [count, rest @ ..] => match cut(rest, *count) {
-            Some((data, _)) => Ok(Item::Packet {
+        [count, rest @ ..] => {
+            let data = rest
+                .get(..usize::from(*count))
+                .ok_or(PacketFault::PastEnd { place })?;
+            Ok(Item::Packet {
                 feed,
                 label,
                 data,
                 place,
-            }),
-            None => Err(PacketFault::PastEnd { place }),
-        },
+            })
+        }
     }
 }
 
@@ -70,13 +63,14 @@ fn with_label<'a>(
     if count > LABEL_MAX {
         return Err(PacketFault::LabelCount { place: place + 1 });
     }
-    match cut(rest, count) {
-        Some((label, rest)) => with_data(place, feed, label, rest),
-        None => Err(PacketFault::PastEnd { place }),
-    }
+    let (label, rest) = rest
+        .split_at_checked(usize::from(count))
+        .ok_or(PacketFault::PastEnd { place })?;
+    with_data(place, feed, label, rest)
 }
 
 /// What stands at the front of `rest`, which begins at `place`.
+// A place and the bytes from it on stay two: the slice is taken apart by patterns, a form that the project fixes.
 fn front<'a>(place: usize, rest: &'a [u8]) -> Result<Item<'a>, PacketFault>
     requires { place + length rest.now < 2 ^ 64 }
     ensures { told result ≡ from_feed place rest.now }

@@ -6,14 +6,16 @@ use crate::fault::PacketFault;
 use crate::item::Item;
 use crate::reading::item_at;
 
-/// How many bytes an item takes.
-fn taken(item: Item<'_>) -> usize
-    requires { size (told (Ok item)) < 2 ^ 64 }
-    ensures { result ≡ size (told (Ok item.entry)) }
-{
-    match item {
-        Item::Packet { label, data, .. } => 3 + label.len() + data.len(),
-        Item::End { .. } => 0,
+impl Item<'_> {
+    /// How many bytes it takes.
+    fn size(self) -> usize
+        requires { size (told (Ok self)) < 2 ^ 64 }
+        ensures { result ≡ size (told (Ok self.entry)) }
+    {
+        match self {
+            Item::Packet { label, data, .. } => 3 + label.len() + data.len(),
+            Item::End { .. } => 0,
+        }
     }
 }
 
@@ -42,7 +44,7 @@ impl<'a> Walk<'a> {
         ensures again { size (told result) ≡ 0 → step_at self.new.place self.new.message.now ≡ told result }
     {
         let item = item_at(self.message, self.place)?;
-        self.place += taken(item);
+        self.place += item.size();
         Ok(item)
     }
 }

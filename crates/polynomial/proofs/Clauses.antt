@@ -1,5 +1,5 @@
 -- The clauses of the definitions as equations, and the coefficients of sums and multiples: `simp (coeffs, ring)` proves what follows from them.
-use Rattle.std.proofs.Common.{◌≡◌, ℕ, zero, suc, List, [], ◌∷◌, sym, refl, ap, ◌∙◌}
+use Rattle.std.proofs.Common.{◌≡◌, ℕ, zero, suc, max, List, [], ◌∷◌, length, sym, refl, ap, ◌∙◌, arith}
 use Rattle.field.specs.Field.{Ops, power}
 use Rattle.field.specs.Polynomial.{value}
 use Rattle.field.proofs.Ring.{Lawful, ring}
@@ -62,6 +62,18 @@ module _ {K : Type 0} (o : Ops K) where
   pub power_suc : (x : K) (n : ℕ) → power o x (suc n) ≡ o.product x (power o x n)
   unfolding power
   power_suc x n = refl
+
+  -- the lengths of sums and multiples
+  pub length_plus : (p q : List K) → length (plus o p q) ≡ max (length p) (length q)
+  unfolding plus
+  length_plus [] q = omega arith
+  length_plus (a ∷ p) [] = omega arith
+  length_plus (a ∷ p) (b ∷ q) = let h = length_plus p q in omega arith
+
+  pub length_scale : (c : K) (p : List K) → length (scale o c p) ≡ length p
+  unfolding scale
+  length_scale c [] = refl
+  length_scale c (a ∷ p) = ap suc (length_scale c p)
 
 pub ruleset clauses = (coeff_nil, coeff_zero, coeff_suc, plus_nil, plus_cons_nil, plus_cons, times_nil, times_cons, shift_zero, shift_suc, crossed_zero, crossed_suc)
 

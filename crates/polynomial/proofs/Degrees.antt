@@ -1,29 +1,39 @@
--- The degree of a polynomial: the steps of its search, where it lies, and that there is one.
-use Rattle.std.proofs.Common.{◌≡◌, ℕ, ◌-◌, ◌<◌, ◌≤◌, true, false, ◌⊎◌, List, length, get_or, sym, ap, ◌∙◌, inl, inr, arith}
-use Rattle.std.proofs.lemmas.Bool.{cases_lt, cases_eq}
+-- The degree of a polynomial: what a search from the top finds, where it lies, and that there is one.
+use Rattle.std.proofs.Common.{◌≡◌, ℕ, ◌<◌, ◌≤◌, true, false, ◌⊎◌, List, length, get_or, Option, Some, None, inl, inr, arith}
+use Rattle.std.specs.Option.{MatchOption}
+use Rattle.std.proofs.lemmas.Bool.{cases_lt}
 use Rattle.std.proofs.lemmas.Bool.Decides.{not_from_Decides}
+use Rattle.std.proofs.lemmas.List.{get_or_past}
 use Rattle.field.specs.Field.{Ops}
 use Rattle.field.proofs.Ring.{Lawful}
 use Rattle.polynomial.specs.Coefficients.{coeff, Degree}
-use Rattle.polynomial.proofs.Entries.{coeff_read, coeff_past}
+use Rattle.polynomial.specs.Division.{HasDegree}
+use Rattle.polynomial.proofs.Entries.{coeff_past}
 
 module _ {K : Type 0} (F : Lawful K) where
   open F.ops use {nought as 𝟎}
 
-  pub degree_found : (p : List K) (n : ℕ) (x z : K) → 0 < n → n ≤ length p → x ≡ get_or p (n - 1) x → z ≡ 𝟎 → false ≡ F.ops.same x z
-      → ((i : ℕ) → n ≤ i → coeff F.ops p i ≡ 𝟎) → Degree F.ops p (n - 1)
-  degree_found p n x z some within is zero' differs above = record {
-    top = λ e. not_from_Decides (F.ops.same x z) (F.laws.sameness x z) (sym differs) (coeff_read F.ops p (n - 1) x (omega arith) is ∙ e ∙ sym zero');
-    above = λ i h. above i (omega arith);
-  }
+  -- what a search from the top finds
+  abbrev pub FromTop : List K → Option ℕ → Type 0
+  FromTop p r = MatchOption r
+      ((k : ℕ) → k < length p → F.ops.same (get_or p k 𝟎) 𝟎 ≡ true)
+      (λ i. (i < length p) × (F.ops.same (get_or p i 𝟎) 𝟎 ≡ false) × ((k : ℕ) → i < k → k < length p → F.ops.same (get_or p k 𝟎) 𝟎 ≡ true))
 
-  pub degree_passed : (p : List K) (n : ℕ) (x z : K) → 0 < n → n ≤ length p → x ≡ get_or p (n - 1) x → z ≡ 𝟎 → true ≡ F.ops.same x z
-      → ((i : ℕ) → n ≤ i → coeff F.ops p i ≡ 𝟎) → (i : ℕ) → n - 1 ≤ i → coeff F.ops p i ≡ 𝟎
-  degree_passed p n x z some within is zero' alike above i h = go (cases_eq i (n - 1))
+  pub degree_from_top : (p : List K) (r : Option ℕ) → FromTop p r → HasDegree F.ops p r
+  unfolding coeff
+  degree_from_top p None zeros = λ i. go i (cases_lt i (length p))
     where
-      go : (i ≡ n - 1) ⊎ (i ≡ n - 1 → ⊥) → coeff F.ops p i ≡ 𝟎
-      go (inl e) = ap (coeff F.ops p) e ∙ sym (coeff_read F.ops p (n - 1) x (omega arith) is) ∙ (F.laws.sameness x z).0 (sym alike) ∙ zero'
-      go (inr ne) = above i (omega arith)
+      go : (i : ℕ) → (i < length p) ⊎ (length p ≤ i) → get_or p i 𝟎 ≡ 𝟎
+      go i (inl h) = (F.laws.sameness _ _).0 (zeros i h)
+      go i (inr h) = get_or_past p i 𝟎 h
+  degree_from_top p (Some m) found = record {
+    top = not_from_Decides _ (F.laws.sameness _ _) found.1;
+    above = λ i h. go i h (cases_lt i (length p));
+  }
+    where
+      go : (i : ℕ) → m < i → (i < length p) ⊎ (length p ≤ i) → get_or p i 𝟎 ≡ 𝟎
+      go i h (inl k) = (F.laws.sameness _ _).0 (found.2 i h k)
+      go i h (inr k) = get_or_past p i 𝟎 k
 
 module _ {K : Type 0} (o : Ops K) where
   -- the top coefficient lies inside the list

@@ -1,5 +1,5 @@
 -- The coefficients of a list as it is read, cut off, written to and made longer.
-use Rattle.std.proofs.Common.{◌≡◌, ℕ, zero, suc, ◌<◌, ◌≤◌, List, [], ◌∷◌, ◌++◌, length, get_or, take, set, replicate, refl, ap, ◌∙◌}
+use Rattle.std.proofs.Common.{◌≡◌, ℕ, zero, suc, ◌<◌, ◌≤◌, List, ◌∷◌, length, get_or, take, set, replicate}
 use Rattle.std.proofs.lemmas.List.{get_or_past, get_or_read, get_or-set_same, get_or-set_other, get_or-take, ext_get_or}
 use Rattle.field.specs.Field.{Ops}
 use Rattle.polynomial.specs.Coefficients.{coeff, Same, Nought}
@@ -27,19 +27,6 @@ module _ {K : Type 0} (o : Ops K) where
   pub coeff_set_other : (p : List K) (i j : ℕ) (v : K) → (j ≡ i → ⊥) → coeff o (set p i v) j ≡ coeff o p j
   unfolding coeff
   coeff_set_other p i j v n = get_or-set_other p i j v o.nought n
-
-  pub coeff_push_here : (p : List K) (d : K) (i : ℕ) → i ≡ length p → coeff o (p ++ d ∷ []) i ≡ d
-  coeff_push_here p d i e = ap (coeff o (p ++ d ∷ [])) e ∙ go p
-    where
-      go : (p : List K) → coeff o (p ++ d ∷ []) (length p) ≡ d
-      go [] = simp clauses
-      go (a ∷ p) = simp clauses (go p)
-
-  pub coeff_push_other : (p : List K) (d : K) (i : ℕ) → (i ≡ length p → ⊥) → coeff o (p ++ d ∷ []) i ≡ coeff o p i
-  coeff_push_other [] d zero n = absurd (n refl)
-  coeff_push_other [] d (suc i) n = simp clauses
-  coeff_push_other (a ∷ p) d zero n = simp clauses
-  coeff_push_other (a ∷ p) d (suc i) n = simp clauses (coeff_push_other p d i (λ e. n (ap suc e)))
 
   -- zeros alone
   pub coeff_zeros : (n i : ℕ) → coeff o (replicate n o.nought) i ≡ o.nought

@@ -1,3 +1,4 @@
+pub mod Lawful
 pub mod Clauses
 pub mod Entries
 pub mod Algebra

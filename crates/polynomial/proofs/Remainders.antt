@@ -1,10 +1,10 @@
 -- The remainder of a polynomial: there is one and one only, and it is linear.
 use Rattle.std.proofs.Common.{◌≡◌, ℕ, zero, suc, ◌<◌, ◌≤◌, ◌⊎◌, List, [], ◌∷◌, length, take, replicate, sym, refl, ap, ◌∙◌, subst, inl, inr, arith, length-take-le}
-use lib.ListN.{length-replicate}
+use Rattle.std.proofs.lemmas.List.{length-replicate}
 use Rattle.std.proofs.lemmas.Bool.{cases_lt, cases_eq}
 use Rattle.field.proofs.Ring.{Lawful, ring, eq_of_sum, no_divisor, add_self, mul_add, mul_one}
 use Rattle.polynomial.specs.Coefficients.{coeff, Same, Nought, plus, scale, times, Degree, Monic, Remainder}
-use Rattle.polynomial.proofs.Clauses.{coeffs, clauses, coeff_plus, coeff_scale, times_cons}
+use Rattle.polynomial.proofs.Clauses.{coeffs, clauses, coeff_plus, coeff_scale, length_plus, times_cons}
 use Rattle.polynomial.proofs.Entries.{coeff_past, coeff_take, coeff_zeros, nought_cons, same_list}
 use Rattle.polynomial.proofs.Algebra.{times_plus, times_scale, times_zero}
 
@@ -108,12 +108,6 @@ module _ {K : Type 0} (F : Lawful K) where
   pub remainder_start : (g : List K) (c : ℕ) → Degree F.ops g c → Remainder F.ops g c [] (replicate c 𝟎)
   remainder_start g c deg = record { degree = deg; quotient = []; sum = λ i. simp (coeffs, coeff_zeros F.ops c i); low = λ i h. coeff_zeros F.ops c i }
 
-  pub length_plus_least : (p q : List K) → length p ≤ length (p ⊞ q)
-  unfolding plus
-  length_plus_least [] q = omega arith
-  length_plus_least (a ∷ p) [] = omega arith
-  length_plus_least (a ∷ p) (b ∷ q) = let h = length_plus_least p q in omega arith
-
   -- every polynomial has a remainder, in as many coefficients as the degree says
   module _ (g : List K) (c : ℕ) (deg : Degree F.ops g c) where
     cancels : (t u y : K) → t ⊗ y ≡ 𝟏 → (u ⊗ y) ⊗ t ≡ 𝟎 ⊕ u
@@ -132,7 +126,7 @@ module _ {K : Type 0} (F : Lawful K) where
         let u = coeff F.ops (a ∷ r) c in
         let f = u ⊗ y.0 in
         let whole = (a ∷ r) ⊞ scale F.ops f g in
-        let room = length_plus_least (a ∷ r) (scale F.ops f g) in
+        let room = length_plus F.ops (a ∷ r) (scale F.ops f g) in
         let e : length (take c whole) ≡ c = length-take-le c whole (omega arith) in (
           take c whole,
           e,

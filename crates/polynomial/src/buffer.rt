@@ -11,6 +11,7 @@ pub struct Polynomial<'a, F> {
     coefficients: &'a mut [F],
 }
 
+// A form that the project fixes: a struct over the lent slice, whose methods pass the slice on to functions.
 impl<'a, F: Field> Polynomial<'a, F> {
     /// The polynomial with these coefficients.
     pub fn new(coefficients: &'a mut [F]) -> Self

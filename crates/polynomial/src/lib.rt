@@ -1,5 +1,5 @@
-//! Polynomials over any kind of field element, as lists of coefficients, lowest power first: their degree, their division in place, and
-//! the theorems on them that hold in every field of the trait.
+//! Polynomials over any kind of field element, as lists of coefficients, lowest power first: their degree, multiples of one added to
+//! another, their division in place, and the theorems on them that hold in every field of the trait.
 #![tactic(auto)]
 
 mod buffer;
@@ -8,7 +8,7 @@ mod division;
 ghost use Rattle.polynomial.specs.Laws.{Coefficients, OneRemainder, LinearRemainder, FewRoots, PowerSums, Distance};
 
 pub use buffer::Polynomial;
-pub use division::{degree, divide};
+pub use division::{add_multiple, degree, divide};
 use field::Field;
 
 /// Sums, multiples, products and shifts have the coefficients that they should.

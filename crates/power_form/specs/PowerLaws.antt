@@ -1,5 +1,5 @@
 -- The power form keeps the laws of a field.
-use Rattle.std.specs.Prelude.{◌≡◌, ℕ, zero, suc, ◌%◌, ◌<◌, ◌≢◌, Some, ◌==◌, bit_xor, refl}
+use Rattle.std.specs.Prelude.{◌≡◌, ℕ, zero, suc, ◌-◌, ◌%◌, ◌<◌, ◌≢◌, Some, ◌==◌, bit_xor, refl}
 use Rattle.std.proofs.Common.{sym, ap, ap₂, ◌∙◌, arith, ne_eqb}
 use mathlib.Core.HLevel.{is_prop→PathP}
 use Rattle.std.proofs.Math.Bridge.{le_prop}
@@ -11,7 +11,7 @@ use Rattle.power_form.specs.Arithmetic.{alpha_byte, product, exponent, inverse}
 use Rattle.power_form.specs.PowerForm.{element, power_ops, reciprocal_if}
 use Rattle.power_form.specs.declared.element.Power.{Power}
 use Rattle.power_form.specs.Bounds.{power_below, product_below, inverse_below}
-use Rattle.power_form.specs.ByteLaws.{product_comm, product_assoc, product_unit, product_alpha, product_inverse, exponent_of_power, period}
+use Rattle.power_form.specs.ByteLaws.{product_comm, product_assoc, product_unit, product_alpha, product_inverse, exponent_of_power, power_mod, period}
 use Rattle.power_form.specs.Products.{right_keeps}
 
 -- Two elements with the same byte are the same.
@@ -44,6 +44,15 @@ power_bits (suc n) =
     product_bits power_ops.alpha (power power_ops power_ops.alpha n)
     ∙ ap (product 2) (power_bits n)
     ∙ product_alpha (alpha_byte n) (power_below n)
+
+-- The power of α by its exponent below 255.
+pub power_element : (n : ℕ) → element (alpha_byte (n % 255)) ≡ power power_ops power_ops.alpha n
+power_element n = ap element (sym (power_mod n)) ∙ sym (element_of _ _ (power_bits n))
+
+-- The reciprocal of an element other than zero: the exponent is taken from 255.
+pub inverse_power : (a : ℕ) → power power_ops power_ops.alpha (255 - exponent a) ≡ element (inverse a)
+unfolding inverse
+inverse_power a = sym (power_element (255 - exponent a))
 
 not_zero : (x : Power) → (x ≢ power_ops.nought) → 0 < x.bits
 not_zero x ne = let n : x.bits ≢ 0 = λ e. ne (power_equal e) in omega arith

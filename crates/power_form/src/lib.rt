@@ -4,9 +4,9 @@
 mod element;
 mod tables;
 
-ghost use Rattle.std.specs.Prelude.{◌≡◌, ◌==◌};
+ghost use Rattle.std.specs.Prelude.{◌≡◌, ◌==◌, refl};
 ghost use Rattle.field.specs.Field.{alpha_power};
-ghost use Rattle.power_form.specs.Arithmetic.{product, inverse};
+ghost use Rattle.power_form.specs.Arithmetic.{product};
 ghost use Rattle.power_form.specs.PowerForm.{element as element_of, power_ops, exponent_if};
 ghost use Rattle.power_form.specs.PowerLaws.{power_laws};
 
@@ -14,21 +14,8 @@ pub use element::Power;
 use field::Field;
 use tables::{exponent_at, power_at};
 
-/// The element with this byte.
-fn element_with(bits: u8) -> Power
-    ensures { result ≡ element_of bits }
-{
-    Power { bits }
-}
-
-/// α^n by the table of powers, whatever n is.
-fn by_table(n: u8) -> Power
-    ensures { result ≡ alpha_power power_ops n }
-{
-    element_with(power_at(n % 255))
-}
-
 /// The byte of a product: the exponents of the factors are added.
+#[tactic(auto, using(crate::specs::ByteLaws::product_exponents, crate::specs::ByteLaws::product_zero))]
 fn product_byte(a: u8, b: u8) -> u8
     ensures { result ≡ product a b }
 {
@@ -39,18 +26,12 @@ fn product_byte(a: u8, b: u8) -> u8
     power_at(n as u8)
 }
 
-/// The byte of the reciprocal of an element other than zero.
-fn inverse_byte(a: u8) -> u8
-    ensures { result ≡ inverse a }
-{
-    power_at((255 - exponent_at(a)) % 255)
-}
-
 /// α to the power n.
+#[tactic(auto, using(crate::specs::PowerLaws::power_element))]
 pub fn alpha_to(n: u8) -> Power
     ensures { result ≡ alpha_power power_ops n }
 {
-    by_table(n)
+    Power::new(power_at(n % 255))
 }
 
 impl Power {
@@ -58,17 +39,14 @@ impl Power {
     pub fn new(bits: u8) -> Power
         ensures { result ≡ element_of bits }
     {
-        element_with(bits)
+        Power { bits }
     }
 
     /// The n below 255 for which this is α^n; none of zero.
     pub fn exponent(self) -> Option<u8>
         ensures { result ≡ exponent_if (self.bits == 0) self.bits }
     {
-        if self.bits == 0 {
-            return None;
-        }
-        Some(exponent_at(self.bits))
+        (self.bits != 0).then(|| exponent_at(self.bits))
     }
 }
 
@@ -76,6 +54,8 @@ impl Field for Power {
     ghost ops = { power_ops };
 
     ghost laws = { power_laws };
+
+    ghost equal = { λ x y. refl };
 
     fn order() -> u8 {
         255
@@ -101,14 +81,8 @@ impl Field for Power {
         Power::new(product_byte(self.bits, other.bits))
     }
 
+    #[tactic(auto, using(crate::specs::PowerLaws::inverse_power))]
     fn reciprocal(self) -> Option<Power> {
-        if self.bits == 0 {
-            return None;
-        }
-        Some(Power::new(inverse_byte(self.bits)))
-    }
-
-    fn same(self, other: Power) -> bool {
-        self.bits == other.bits
+        self.exponent().map(|n| alpha_to(255 - n))
     }
 }

@@ -43,6 +43,7 @@ const EXPONENTS: [u8; 256] = [
 ];
 
 /// The byte of α^n, by a table that keeps the rule of `POWERS`.
+#[tactic(auto, using(crate::proofs::Chained::chain_at))]
 fn power_in(table: &[u8; 255], n: u8) -> u8
     requires rule { chain 1 table.now ≡ true }
     requires below { n < 255 }
@@ -52,6 +53,7 @@ fn power_in(table: &[u8; 255], n: u8) -> u8
 }
 
 /// The byte of α^n, for n below 255.
+#[tactic(auto, unfolding(crate::specs::Arithmetic::times_alpha, crate::specs::Chain::chain))]
 pub(crate) fn power_at(n: u8) -> u8
     requires { n < 255 }
     ensures { result ≡ alpha_byte n }

@@ -1,4 +1,4 @@
+pub mod Choices
 pub mod Dividers
 pub mod Rows
-pub mod DividersLemmas
 pub mod RowsLemmas

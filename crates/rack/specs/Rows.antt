@@ -1,11 +1,7 @@
 -- Banks of one lane in a row.
-use Rattle.std.specs.Prelude.{ℕ, List, [], map, take, slice_index_or}
+use Rattle.std.specs.Prelude.{List, [], map, slice_index_or}
 use Rattle.bank.specs.Lanes.{Lanes}
 
 -- The lane of each bank.
 unfoldable pub row : {D : Type 0} → (D → Lanes) → List D → Lanes
 row lanes banks = map (λ d. slice_index_or (lanes d) 0 []) banks
-
--- The lanes of the first n banks.
-unfoldable pub in_row : {D : Type 0} → (D → Lanes) → List D → ℕ → Lanes
-in_row lanes banks n = take n (row lanes banks)

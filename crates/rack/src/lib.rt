@@ -3,12 +3,12 @@
 
 mod choice;
 mod kind;
-mod lanes;
 mod making;
 mod row;
 mod single;
 
 pub use choice::Choice;
-pub use kind::Kind;
-pub use row::{Divider, Rack};
+pub use kind::{Divider, Kind};
+pub use making::Rack;
+pub use row::Row;
 pub use single::Single;

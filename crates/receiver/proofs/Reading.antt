@@ -1,6 +1,7 @@
 -- The lanes of a block read one by one: the start, one lane more, the end, and a lane that has no codeword.
-use Rattle.std.proofs.Common.{◌≡◌, ℕ, ◌+◌, ◌/◌, ◌%◌, ◌<◌, cond, eqb, ◌⊎◌, List, length, get_or, sym, refl, ap, ◌∙◌, subst, ap₂, inl, inr, add-one, arith, eq-eqb, ne_eqb}
+use Rattle.std.proofs.Common.{◌≡◌, ℕ, ◌+◌, ◌/◌, ◌*◌, ◌%◌, ◌<◌, ◌≤◌, cond, eqb, ◌⊎◌, List, length, get_or, take, sym, refl, ap, ◌∙◌, subst, ap₂, inl, inr, add-one, arith, eq-eqb, ne_eqb}
 use Rattle.std.proofs.lemmas.Nat.{div-add-mod', div_below, mod_below}
+use Rattle.std.proofs.lemmas.List.{length-take-le, get_or-take}
 use Rattle.std.proofs.lemmas.Bool.{cases_eq}
 use Rattle.polynomial.specs.Words.{distance}
 use Rattle.code.specs.Code.{telemetry}
@@ -59,15 +60,17 @@ module _ (d : ℕ) (block : List ℕ) where
         };
   }
 
-  pub read_all : (n wrong : ℕ) (message : List ℕ) → n ≡ d → length message ≡ message_length d → LanesRead d block n wrong message → Corrected d block wrong message
+  pub read_all : (n wrong : ℕ) (message : List ℕ) → n ≡ d → message_length d ≤ length message → LanesRead d block n wrong message
+      → Corrected d block wrong (take (message_length d) message)
   read_all n wrong message whole long read = record {
     words = read.words;
     near = λ l h. read.near l (omega arith);
     counted = read.counted ∙ ap (λ k. total k (λ l. distance dual_ops (word d block l) (read.words l))) whole;
-    written = message_filled d read.words message long
+    written = message_filled d read.words (take (223 * d) message) (length-take-le (223 * d) message long)
         (λ m h.
         let some : 0 < d = omega arith in
-        ap (λ p. get_or message p 0) (sym (div-add-mod' m d))
+        get_or-take (223 * d) message m 0 h
+        ∙ ap (λ p. get_or message p 0) (sym (div-add-mod' m d))
         ∙ read.stand (m % d) (omega (arith, mod_below m d some)) (m / d) (div_below m d 223 some h));
   }
 

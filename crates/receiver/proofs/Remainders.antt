@@ -1,7 +1,9 @@
 -- The remainder of a word: the registers that took its message symbols, and its check symbols added.
 use Rattle.std.proofs.Common.{◌≡◌, ℕ, ◌+◌, ◌-◌, ◌<◌, List, [], ◌++◌, map, reverse, length, get_or, take, drop, Ok, Result, sym, refl, ap, ◌∙◌, subst, ap₂, ⊎_elim, arith}
-use Rattle.std.proofs.lemmas.List.{length-reverse, length-map, length-drop, reverse-append, map-append, take-append-drop, ext_get_or, get_or-map, get_or-drop, get_or-reverse}
+use Rattle.std.proofs.lemmas.List.{length-reverse, length-map, length-drop, reverse-append, map-append, take-append-drop, get_or-map, get_or-drop, get_or-reverse}
+use Rattle.std.proofs.lemmas.List.FromFn.{get_or-map-range_with_len, length-map-range_with_len}
 use Rattle.std.proofs.lemmas.Bool.{cases_lt}
+use Rattle.std.specs.List.{range_with_len}
 use Rattle.field.specs.Field.{Ops}
 use Rattle.field.proofs.Ring.{Lawful}
 use Rattle.polynomial.specs.Coefficients.{coeff, plus, times, shift, Same, Nought}
@@ -20,7 +22,7 @@ use Rattle.power_form.specs.declared.element.Power.{Power}
 use Rattle.power_form.specs.PowerLaws.{power_laws}
 use Rattle.dual_form.specs.DualForm.{symbol, dual_of_power, power_of_dual, dual_ops}
 use Rattle.dual_form.specs.declared.element.Dual.{Dual}
-use Rattle.dual_form.specs.DualLaws.{back, forth, symbol_of}
+use Rattle.dual_form.specs.DualLaws.{back, forth}
 use Rattle.locator.proofs.Refusals.{distance_self, near_itself}
 use Rattle.correction.specs.Correcting.{Corrected, CorrectedIn}
 use Rattle.reception.proofs.One.{dual_field}
@@ -58,15 +60,6 @@ module _ {K : Type 0} (F : Lawful K) (c : Code) where
 coefficient : {K : Type 0} (o : Ops K) (p : List K) (i : ℕ) → get_or p i o.nought ≡ coeff o p i
 unfolding coeff
 coefficient o p i = refl
-
--- The registers with these bytes.
-pub registers_read : (rs : List Dual) (held : List ℕ) → length rs ≡ 32 → length held ≡ 32 → ((j : ℕ) → j < 32 → get_or held j 0 ≡ (coeff dual_ops rs j).byte) → map symbol held ≡ rs
-unfolding coeff
-registers_read rs held long size each =
-    ext_get_or dual_ops.nought (map symbol held) rs (length-map held symbol ∙ size ∙ sym long)
-    (λ j h.
-    let h' : j < 32 = omega (arith, length-map held symbol) in
-    get_or-map symbol held j 0 dual_ops.nought (omega arith) ∙ sym (symbol_of (get_or rs j dual_ops.nought) (get_or held j 0) (sym (each j h'))))
 
 module _ (bytes held : List ℕ) (long : length bytes ≡ 255) (size : length held ≡ 32)
     (took : map symbol held ≡ registers dual_ops telemetry (map symbol (take 223 bytes))) where
@@ -106,20 +99,25 @@ module _ (bytes held : List ℕ) (long : length bytes ≡ 255) (size : length he
   register_at i h = ap (λ rs. get_or rs i dual_ops.nought) (sym took) ∙ get_or-map symbol held i 0 dual_ops.nought (omega arith)
 
   -- Each register and check symbol added, in power form.
-  pub remainder_found : (r : List Power) → length r ≡ 32
-      → ((i : ℕ) → i < 32 → get_or r i (element 0) ≡ power_of_dual (dual_ops.sum (symbol (get_or held i 0)) (symbol (get_or bytes (254 - i) 0))))
-      → Leaves power_ops telemetry (power_word_of bytes) r
-  remainder_found r count each = remainder_same power_field (generator power_ops telemetry) 32 (power_word_of bytes) (power_word_of bytes) _ r (λ i. refl) same in_power
+  abbrev pub sums : ℕ → Power
+  sums i = power_of_dual (dual_ops.sum (symbol (get_or held i 0)) (symbol (get_or bytes (254 - i) 0)))
+
+  pub remainder_found : (r : List Power) → r ≡ map sums (range_with_len 0 32) → Leaves power_ops telemetry (power_word_of bytes) r
+  remainder_found r is = remainder_same power_field (generator power_ops telemetry) 32 (power_word_of bytes) (power_word_of bytes) _ r (λ i. refl) same in_power
     where
       low : (i : ℕ) → i < 32 → coeff power_ops (map power_of_dual (plus dual_ops (registers dual_ops telemetry ms) (reverse cs))) i ≡ coeff power_ops r i
       low i h =
           coeff_from power_ops dual_of_power power_of_dual back forth (plus dual_ops (registers dual_ops telemetry ms) (reverse cs)) i
           ∙ ap power_of_dual (coeff_plus dual_field (registers dual_ops telemetry ms) (reverse cs) i ∙ ap₂ dual_ops.sum (register_at i h) (check_at i h))
-          ∙ sym (each i h)
+          ∙ sym (get_or-map-range_with_len sums 0 32 i i (element 0) h (omega arith))
+          ∙ ap (λ l. get_or l i (element 0)) (sym is)
           ∙ coefficient power_ops r i
 
+      count : length r ≡ 32
+      count = ap length is ∙ length-map-range_with_len sums 0 32
+
       same : (i : ℕ) → coeff power_ops (map power_of_dual (plus dual_ops (registers dual_ops telemetry ms) (reverse cs))) i ≡ coeff power_ops r i
-      same i = ⊎_elim (low i) (λ h. in_power.low i h ∙ sym (coeff_past power_ops r i (omega arith))) (cases_lt i 32)
+      same i = ⊎_elim (low i) (λ h. in_power.low i h ∙ sym (coeff_past power_ops r i (omega (arith, count)))) (cases_lt i 32)
 
 -- A word that leaves zero is a codeword, and corrected as it is.
 pub clean_word : (bytes : List ℕ) (r : List Power) → length bytes ≡ 255 → Leaves power_ops telemetry (power_word_of bytes) r → Nought power_ops r

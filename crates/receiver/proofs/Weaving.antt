@@ -1,9 +1,15 @@
 -- The places of lanes in a message, and what writing to one of them leaves.
-use Rattle.std.proofs.Common.{◌≡◌, ℕ, ◌+◌, ◌*◌, ◌/◌, ◌%◌, ◌<◌, ◌⊎◌, List, length, get_or, set, sym, ap, ◌∙◌, inl, inr, arith}
+use Rattle.std.proofs.Common.{◌≡◌, ℕ, ◌+◌, ◌*◌, ◌/◌, ◌%◌, ◌<◌, ◌≤◌, ◌⊎◌, List, length, get_or, set, true, sym, ap, ◌∙◌, inl, inr, arith}
 use Rattle.std.proofs.lemmas.Nat.{mul-add-lt, div-mul-add, mod-mul-add}
 use Rattle.std.proofs.lemmas.List.{get_or-set_same, get_or-set_other}
 use Rattle.std.proofs.lemmas.Bool.{cases_eq}
+use Rattle.std.proofs.lemmas.Bool.Decides.{nat_tests}
+use Rattle.block.specs.Depths.{is_depth}
 use Rattle.receiver.specs.Lanes.{OthersKept}
+
+-- There are at most 8 lanes.
+pub depth_most : (d : ℕ) → is_depth d ≡ true → d ≤ 8
+depth_most d known = grind (arith, nat_tests)
 
 -- A place of n rows of d.
 pub place_in : (n d i l : ℕ) → i < n → l < d → i * d + l < n * d
@@ -18,7 +24,7 @@ same_lane d i j k l inside inside' e = sym (mod-mul-add i d k inside) ∙ ap (λ
 
 module _ (d l : ℕ) (inside : l < d) (before : List ℕ) where
   -- One row more of the lane l is written.
-  pub row_written : (message bytes : List ℕ) (i b : ℕ) → i < 223 → length message ≡ 223 * d → b ≡ get_or bytes i 0 % 256
+  pub row_written : (message bytes : List ℕ) (i b : ℕ) → i < 223 → 223 * d ≤ length message → b ≡ get_or bytes i 0 % 256
       → ((j : ℕ) → j < i → get_or message (j * d + l) 0 ≡ get_or bytes j 0 % 256)
       → (j : ℕ) → j < i + 1 → get_or (set message (i * d + l) b) (j * d + l) 0 ≡ get_or bytes j 0 % 256
   row_written message bytes i b within long is so_far j h = at (cases_eq j i)

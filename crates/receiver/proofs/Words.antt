@@ -1,16 +1,14 @@
 -- Words as bytes in the order in which they are sent: their symbols.
-use Rattle.std.proofs.Common.{◌≡◌, ℕ, ◌+◌, ◌-◌, ◌*◌, ◌<◌, List, map, reverse, length, get_or, sym, ap, ◌∙◌, ⊎_elim, arith}
-use Rattle.std.proofs.lemmas.List.FromFn.{fill_by_all}
-use Rattle.std.proofs.lemmas.List.{ext_get_or, get_or-map, get_or_past, get_or-reverse, length-map, length-reverse}
-use Rattle.std.proofs.lemmas.Bool.{cases_lt}
-use Rattle.polynomial.specs.Coefficients.{coeff, Nought}
-use Rattle.power_form.specs.PowerForm.{element, power_ops}
+use Rattle.std.proofs.Common.{◌≡◌, ℕ, ◌-◌, ◌<◌, List, [], ◌∷◌, ◌++◌, map, reverse, length, get_or, Some, Option, sym, refl, ap, ◌∙◌, ap₂, arith}
+use Rattle.std.proofs.lemmas.List.{get_or-map, get_or-reverse, length-map, length-reverse, reverse-append, reverse-reverse, map_push}
+use Rattle.std.proofs.lemmas.Simd.{map-map}
+use Rattle.polynomial.specs.Coefficients.{coeff}
 use Rattle.power_form.specs.declared.element.Power.{Power}
-use Rattle.power_form.specs.PowerLaws.{power_equal}
 use Rattle.dual_form.specs.DualForm.{symbol, dual_of_power, power_of_dual, dual_ops}
 use Rattle.dual_form.specs.declared.element.Dual.{Dual}
 use Rattle.dual_form.specs.DualLaws.{symbol_of}
-use Rattle.block.specs.Lanes.{lane, word}
+use Rattle.block.specs.Lanes.{lane_of, word}
+use Rattle.block.proofs.Places.{lane_given}
 use Rattle.receiver.specs.Words.{word_of, power_word_of}
 
 pub length_word_of : (bytes : List ℕ) → length (word_of bytes) ≡ length bytes
@@ -31,38 +29,30 @@ word_of_at bytes i long h =
     let twice : 254 - (254 - i) ≡ i = omega arith in
     word_of_entry bytes (254 - i) dual_ops.nought long (omega arith) ∙ ap (λ k. symbol (get_or bytes k 0)) twice
 
--- A list with the right symbols is the word in power form.
-pub power_word_filled : (bytes : List ℕ) (word : List Power) → length bytes ≡ 255 → length word ≡ 255
-    → ((k : ℕ) → k < 255 → get_or word k (element 0) ≡ power_of_dual (symbol (get_or bytes (254 - k) 0))) → word ≡ power_word_of bytes
-unfolding power_word_of
-power_word_filled bytes word long size each =
-    let size' : length (map power_of_dual (word_of bytes)) ≡ 255 = length-map (word_of bytes) power_of_dual ∙ length_word_of bytes ∙ long in
-    ext_get_or (element 0) word (map power_of_dual (word_of bytes)) (size ∙ sym size')
-    (λ k h.
-    let within : k < 255 = omega arith in
-    each k within
-    ∙ sym (get_or-map power_of_dual (word_of bytes) k (symbol 0) (element 0) (omega (arith, length_word_of bytes)) ∙ ap power_of_dual (word_of_entry bytes k (symbol 0) long within)))
+reverse_map : {A B : Type 0} (f : A → B) (xs : List A) → reverse (map f xs) ≡ map f (reverse xs)
+reverse_map f [] = refl
+reverse_map f (x ∷ xs) =
+    reverse-append (f x ∷ []) (map f xs) ∙ ap (λ l. l ++ f x ∷ []) (reverse_map f xs) ∙ sym (map_push f (reverse xs) x)
+    ∙ ap (map f) (sym (reverse-append (x ∷ []) xs))
 
--- Bytes with the right symbols are the word in dual form.
-pub word_written : (bytes : List ℕ) (word : List Power) → length bytes ≡ 255 → length word ≡ 255
-    → ((j : ℕ) → j < 255 → get_or bytes j 0 ≡ (dual_of_power (get_or word (254 - j) (element 0))).byte) → word_of bytes ≡ map dual_of_power word
-word_written bytes word long size each =
-    ext_get_or (symbol 0) (word_of bytes) (map dual_of_power word) (length_word_of bytes ∙ long ∙ sym (length-map word dual_of_power ∙ size))
-    (λ k h.
-    let within : k < 255 = omega (arith, length_word_of bytes) in
-    let twice : 254 - (254 - k) ≡ k = omega arith in
-    word_of_entry bytes k (symbol 0) long within
-    ∙ sym (symbol_of (dual_of_power (get_or word (254 - (254 - k)) (element 0))) (get_or bytes (254 - k) 0) (sym (each (254 - k) (omega arith))))
-    ∙ ap (λ i. dual_of_power (get_or word i (element 0))) twice
-    ∙ sym (get_or-map dual_of_power word k (element 0) (symbol 0) (omega arith)))
+-- The bytes' elements in power form, turned round.
+pub power_word_is : (bytes : List ℕ) → reverse (map (λ b. power_of_dual (symbol b)) bytes) ≡ power_word_of bytes
+unfolding power_word_of word_of
+power_word_is bytes = ap reverse (sym (map-map power_of_dual symbol bytes)) ∙ reverse_map power_of_dual (map symbol bytes)
 
--- The bytes of a lane are its word.
-pub lane_word : (d : ℕ) (block : List ℕ) (l : ℕ) (bytes : List ℕ) → length bytes ≡ 255 → ((i : ℕ) → i < 255 → get_or bytes i 0 ≡ get_or block (i * d + l) 0) → word_of bytes ≡ word d block l
-unfolding word_of word lane
-lane_word d block l bytes long each = ap (λ xs. reverse (map symbol xs)) (fill_by_all (λ i. get_or block (i * d + l) 0) bytes 255 0 long each)
+symbols_of : (word : List Power) → map symbol (map (λ x. (dual_of_power x).byte) word) ≡ map dual_of_power word
+symbols_of [] = refl
+symbols_of (x ∷ word) = ap₂ ◌∷◌ (sym (symbol_of (dual_of_power x) (dual_of_power x).byte refl)) (symbols_of word)
 
--- A polynomial whose bytes are 0 is zero.
-pub all_nought : (p : List Power) (n : ℕ) → length p ≡ n → ((j : ℕ) → j < n → (get_or p j (element 0)).bits ≡ 0) → Nought power_ops p
-unfolding coeff
-all_nought p n long each i =
-    ⊎_elim (λ h. power_equal (each i h)) (λ h. get_or_past p i (element 0) (omega arith)) (cases_lt i n)
+-- Bytes that are those of a word, turned round, are the word in dual form.
+pub word_written : (word : List Power) (bytes : List ℕ) → bytes ≡ reverse (map (λ x. (dual_of_power x).byte) word) → word_of bytes ≡ map dual_of_power word
+unfolding word_of
+word_written word bytes is =
+    let sent = map (λ x. (dual_of_power x).byte) word in
+    ap (λ bs. reverse (map symbol bs)) is ∙ ap reverse (sym (reverse_map symbol sent)) ∙ reverse-reverse (map symbol sent) ∙ symbols_of word
+
+-- The bytes that are given for a lane are its word.
+pub lane_read : (d : ℕ) (block : List ℕ) (l : ℕ) (given : Option (List ℕ)) (bytes : List ℕ) → l < d → given ≡ lane_of d block l → given ≡ Some bytes
+    → word_of bytes ≡ word d block l
+unfolding word_of word
+lane_read d block l given bytes inside is some = ap (λ xs. reverse (map symbol xs)) (lane_given d block l bytes inside (sym is ∙ some))

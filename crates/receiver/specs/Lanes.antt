@@ -1,5 +1,5 @@
 -- What is found in the lanes of a block, and what is written of it, lane by lane.
-use Rattle.std.specs.Prelude.{◌≡◌, ℕ, ◌+◌, ◌-◌, ◌*◌, ◌<◌, ◌≤◌, true, List, length, Some, Ok, Err, Result, ◌≢◌, slice_index}
+use Rattle.std.specs.Prelude.{◌≡◌, ℕ, ◌+◌, ◌-◌, ◌*◌, ◌<◌, ◌≤◌, List, Ok, Err, Result, ◌≢◌, slice_index}
 use Rattle.polynomial.specs.Coefficients.{coeff}
 use Rattle.polynomial.specs.Words.{distance}
 use Rattle.code.specs.Code.{telemetry}
@@ -7,14 +7,10 @@ use Rattle.dual_form.specs.DualForm.{dual_ops}
 use Rattle.dual_form.specs.declared.element.Dual.{Dual}
 use Rattle.locator.specs.Correction.{Near}
 use Rattle.correction.specs.Correcting.{Far}
-use Rattle.block.specs.Depths.{is_depth, block_length}
 use Rattle.block.specs.Lanes.{word}
-use Rattle.block.specs.declared.depth.Depth.{Depth}
-use Rattle.block.specs.declared.fault.BlockFault.{BlockFault}
 use Rattle.reception.specs.Messages.{total}
-use Rattle.reception.specs.Reception.{argument_fault, Corrected, Lost}
+use Rattle.reception.specs.Reception.{Corrected, Lost}
 use Rattle.reception.specs.declared.fault.LaneFault.{LaneFault}
-use Rattle.reception.specs.declared.fault.ReceiveFault.TheVariants.{Block}
 
 -- The message symbols of a word stand in the lane l of a message of depth d.
 abbrev pub Stands : ℕ → ℕ → List Dual → List ℕ → Type 0
@@ -50,8 +46,3 @@ LanesTold d block message (Err f) = Lost d block f.lane
 abbrev pub Written : ℕ → List ℕ → List ℕ → List ℕ → Result ℕ LaneFault → Type 0
 Written d block before after (Ok wrong) = Corrected d block wrong after
 Written d block before after (Err f) = Lost d block f.lane × (after ≡ before)
-
--- What is answered to a number of lanes and a block: the depth, where both are right, or the fault.
-abbrev pub DepthTold : ℕ → List ℕ → Result Depth BlockFault → Type 0
-DepthTold d block (Ok depth) = (depth.lanes ≡ d) × (is_depth d ≡ true) × (length block ≡ block_length d)
-DepthTold d block (Err f) = (before : List ℕ) → argument_fault d block before ≡ Some (Block f)

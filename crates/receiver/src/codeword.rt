@@ -1,78 +1,50 @@
 //! The codeword layer: one word is corrected.
-ghost use Rattle.std.specs.Prelude.{◌≡◌, true, [], map, slice_index_or};
-ghost use Rattle.polynomial.specs.Coefficients.{Nought};
+ghost use Rattle.std.specs.Prelude.{◌≡◌, [], map, slice_index_or};
 ghost use Rattle.power_form.specs.PowerForm.{power_ops};
 ghost use Rattle.dual_form.specs.DualForm.{symbol, dual_of_power, dual_ops};
 ghost use Rattle.code.specs.Code.{telemetry};
 ghost use Rattle.generator.specs.Claims.{Leaves};
-ghost use Rattle.divider.specs.Registers.{registers};
 ghost use Rattle.bank.specs.Lanes.{all_stepped};
 ghost use Rattle.correction.specs.Correcting.{Corrected};
 ghost use Rattle.receiver.specs.Words.{word_of, power_word_of};
 
-use bank::{Bank, REGISTERS, take_all};
+use bank::{Bank, REGISTERS, read_all, take_all};
 use code::SYMBOLS;
-use correction::{NoCodeword, correct};
+use correction::{NoCodeword, correct, is_zero};
 use dividers::TableDivider;
 use dual_form::Dual;
 use field::Field;
 use power_form::Power;
+use std::array;
 
 /// The message symbols of a codeword.
-pub(crate) const MESSAGE_SYMBOLS: usize = 223;
+pub(crate) const MESSAGE_SYMBOLS: usize = SYMBOLS - REGISTERS;
 
 /// What the first lane of a bank holds once it took the symbols of a message.
 fn divide<B: Bank>(bank: &mut B, message: &[u8]) -> [u8; REGISTERS]
     ensures { map symbol result ≡ all_stepped (slice_index_or (B.Bank.lanes bank.old) 0 []) message.now }
 {
     let _ = take_all(bank, 0, message);
-    let mut held = [0; REGISTERS];
-    for i in 0..REGISTERS {
-        held[i] = bank.read(0, i).unwrap();
-    }
-    held
-}
-
-/// What a divider holds once it took the symbols of a message.
-fn registers_of(message: &[u8]) -> [u8; REGISTERS]
-    ensures { map symbol result ≡ registers dual_ops telemetry (map symbol message.now) }
-{
-    divide(&mut TableDivider::new(), message)
+    read_all(bank, 0).unwrap()
 }
 
 /// The remainder of a word by the generator: the divider's registers and the check symbols added.
 fn remainder_of(bytes: &[u8; SYMBOLS]) -> [Power; REGISTERS]
     ensures { Leaves power_ops telemetry (power_word_of bytes.now) result }
 {
-    let registers = registers_of(&bytes[..MESSAGE_SYMBOLS]);
-    let mut remainder = [Power::new(0); REGISTERS];
-    for i in 0..REGISTERS {
+    let registers = divide(&mut TableDivider::new(), &bytes[..MESSAGE_SYMBOLS]);
+    array::from_fn(|i| {
         let check = Dual::new(bytes[SYMBOLS - 1 - i]);
-        remainder[i] = Dual::new(registers[i]).plus(check).to_power();
-    }
-    remainder
-}
-
-/// Whether every symbol of a remainder is zero, as it is for a codeword.
-fn is_zero(remainder: &[Power; REGISTERS]) -> bool
-    ensures { result ≡ true → Nought power_ops remainder.now }
-{
-    for i in 0..REGISTERS {
-        if remainder[i].bits != 0 {
-            return false;
-        }
-    }
-    true
+        Power::from(Dual::new(registers[i]).plus(check))
+    })
 }
 
 /// The word of bytes in power form, C_0 first.
 fn power_word(bytes: &[u8; SYMBOLS]) -> [Power; SYMBOLS]
     ensures { result ≡ power_word_of bytes.now }
 {
-    let mut word = [Power::new(0); SYMBOLS];
-    for k in 0..SYMBOLS {
-        word[k] = Dual::new(bytes[SYMBOLS - 1 - k]).to_power();
-    }
+    let mut word = bytes.map(|byte| Power::from(Dual::new(byte)));
+    word.reverse();
     word
 }
 
@@ -80,9 +52,8 @@ fn power_word(bytes: &[u8; SYMBOLS]) -> [Power; SYMBOLS]
 fn write_word(bytes: &mut [u8; SYMBOLS], word: &[Power; SYMBOLS])
     ensures { word_of bytes.new ≡ map dual_of_power word.now }
 {
-    for i in 0..SYMBOLS {
-        bytes[i] = Dual::of_power(word[SYMBOLS - 1 - i]).byte;
-    }
+    *bytes = word.map(|symbol| Dual::from(symbol).byte);
+    bytes.reverse();
 }
 
 /// Corrects a word, its bytes C_254 first; how many of its symbols were wrong.

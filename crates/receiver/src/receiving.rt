@@ -1,27 +1,11 @@
 //! The receiver layer: a block is received.
 ghost use Rattle.reception.specs.Reception.{answer, Receives};
-ghost use Rattle.receiver.specs.Lanes.{DepthTold};
 
 use crate::codeword::MESSAGE_SYMBOLS;
 use crate::lanes::write_message;
-use block::{BlockFault, Depth, depth_of};
-use code::SYMBOLS;
+use block::Block;
 use packet::count_packets;
 use reception::ReceiveFault;
-
-/// The bytes of the longest message.
-const MESSAGE_MAX: usize = 1784;
-
-/// The depth of a block, if there is such a depth and the block has the right length.
-fn block_depth(block: &[u8], depth: usize) -> Result<Depth, BlockFault>
-    ensures { DepthTold depth block.now result }
-{
-    let depth = depth_of(depth)?;
-    if block.len() != SYMBOLS * depth.lanes {
-        return Err(BlockFault::BlockLength);
-    }
-    Ok(depth)
-}
 
 /// Receives a block: writes its message, and tells how many of the block's symbols were wrong and how many packets the message holds.
 /// Unless every lane has its codeword, the message buffer is left as it was.
@@ -32,13 +16,11 @@ pub fn receive(
 ) -> Result<(usize, usize), ReceiveFault>
     ensures { Receives depth block.now message.old (answer result) message.new }
 {
-    let depth = block_depth(block, depth)?;
-    if message.len() != MESSAGE_SYMBOLS * depth.lanes {
+    let block = Block::new(block, depth)?;
+    if message.len() != MESSAGE_SYMBOLS * block.depth.lanes {
         return Err(ReceiveFault::MessageLength);
     }
-    let mut work = [0; MESSAGE_MAX];
-    let size = message.len();
-    let wrong = write_message(block, &mut work[..size], message, depth)?;
+    let wrong = write_message(&block, message)?;
     let packets = count_packets(message)?;
     Ok((wrong, packets))
 }
@@ -46,6 +28,8 @@ pub fn receive(
 #[cfg(test)]
 mod tests {
     use super::*;
+    use code::SYMBOLS;
+    use std::array;
     use std::process::Abort;
     use std::test::Fail;
 
@@ -61,21 +45,13 @@ mod tests {
             return Err(Fail::new("received"));
         };
         assert_eq!(rt; fault.refusal().number, number);
-        for byte in message.iter() {
-            assert!(rt; *byte == 0xa5);
-        }
+        assert!(rt; message.iter().all(|byte| *byte == 0xa5));
         Ok(())
     }
 
     // Zeros, but for every fifteenth symbol from a place on.
     fn wrong_from(first: usize) -> [u8; SYMBOLS] {
-        let mut block = [0; SYMBOLS];
-        for i in 0..SYMBOLS {
-            if i >= first && i % 15 == 0 {
-                block[i] = 0x7b;
-            }
-        }
-        block
+        array::from_fn(|i| if i >= first && i % 15 == 0 { 0x7b } else { 0 })
     }
 
     // With 17 wrong symbols there is no codeword, and with 16 it is an empty message.
@@ -88,11 +64,7 @@ mod tests {
         check_refused(&rt, &lost, &mut message, 2, 14)?;
         check_refused(&rt, &lost, &mut short, 1, 15)?;
         check_refused(&rt, &lost, &mut message, 1, 16)?;
-        let block = wrong_from(1);
-        let Ok(counts) = receive(&block, &mut message, 1) else {
-            return Err(Fail::new("refused"));
-        };
-        assert_eq!(rt; counts, (16, 0));
+        assert_eq!(rt; receive(&wrong_from(1), &mut message, 1), Ok((16, 0)));
         assert_eq!(rt; message[0], 0);
         Ok(())
     }

@@ -15,11 +15,10 @@ use Rattle.block.proofs.Places.{length_word}
 use Rattle.packet.specs.Items.{count_of}
 use Rattle.packet.specs.declared.fault.PacketFault.{PacketFault}
 use Rattle.reception.specs.Messages.{message_length, message_of}
-use Rattle.reception.specs.Reception.{success, refused, unless, argument_fault, Corrected, walked, Received}
+use Rattle.reception.specs.Reception.{success, unless, argument_fault, Corrected, walked, Received}
 use Rattle.reception.specs.Laws.{CheckAgrees}
 use Rattle.reception.specs.declared.fault.ReceiveFault.{ReceiveFault}
 use Rattle.reception.specs.declared.fault.ReceiveFault.TheVariants.{Block, MessageLength}
-use Rattle.reception.specs.declared.fault.Refusal.{Refusal}
 use Rattle.reception.proofs.Totals.{total_same, total_zeros, total_zero}
 use Rattle.reception.proofs.One.{dual_field, same_wrong}
 
@@ -35,14 +34,10 @@ no_distance F (a ∷ v) (b ∷ w) l e = go (F.ops.same a b) refl e (no_distance 
     go true s e rest = ap₂ ◌∷◌ ((F.laws.sameness a b).0 s) (rest e)
     go false s e rest = absurd (omega arith)
 
--- A success is no refusal.
-success_refused : {wrong packets : ℕ} {f : Refusal} → success wrong packets ≡ refused f → ⊥
-success_refused e = let z : ◌≡◌ {A = ℕ} 0 1 = cc in omega arith
-
 -- The count of a success is the one that the walk was given.
 same_count : (wrong packets n : ℕ) (r : Result ℕ PacketFault) → success wrong packets ≡ walked n r → wrong ≡ n
 same_count wrong packets n (Ok k) e = cc
-same_count wrong packets n (Err f) e = absurd (success_refused e)
+same_count wrong packets n (Err f) e = cc
 
 -- Arguments without a fault are right.
 arguments_right : (d : ℕ) (block before : List ℕ) → argument_fault d block before ≡ None → (is_depth d ≡ true) × (length block ≡ block_length d)
@@ -52,8 +47,8 @@ arguments_right d block before e = at (is_depth d) (eqb (length block) (block_le
         → unless known (Block NoDepth) (unless long (Block BlockLength) (unless (eqb (length before) (message_length d)) MessageLength None)) ≡ None
         → (is_depth d ≡ true) × (length block ≡ block_length d)
     at true true known long e = (known, eqb-true (length block) (block_length d) long)
-    at true false known long e = absurd (let z : ◌≡◌ {A = ℕ} 0 1 = cc in omega arith)
-    at false long known is e = absurd (let z : ◌≡◌ {A = ℕ} 0 1 = cc in omega arith)
+    at true false known long e = cc
+    at false long known is e = cc
 
 module _ (d : ℕ) (block : List ℕ) where
   sound_near : Sound block d → (l : ℕ) → l < d → Near dual_ops telemetry (word d block l) (word d block l)
@@ -83,11 +78,11 @@ module _ (d : ℕ) (block : List ℕ) where
   success_read : (f : Option ReceiveFault) (before message : List ℕ) (wrong packets : ℕ) → argument_fault d block before ≡ f
       → Received f d block before (success wrong packets) message
       → (is_depth d ≡ true) × (length block ≡ block_length d) × Corrected d block wrong message
-  success_read (Some f) before message wrong packets e r = absurd (success_refused r.0)
+  success_read (Some f) before message wrong packets e r = let e = r.0 in cc
   success_read None before message wrong packets e (inl r) =
       let right = arguments_right d block before e in
       (right.0, right.1, subst (λ n. Corrected d block n message) (sym (same_count wrong packets r.wrong (count_of message) r.answered)) r.corrected)
-  success_read None before message wrong packets e (inr r) = absurd (success_refused r.answered)
+  success_read None before message wrong packets e (inr r) = let e = r.answered in cc
 
 pub check_agrees : CheckAgrees
 check_agrees d block =

@@ -1,12 +1,13 @@
 //! How the faults of each layer rise to the receiver, and what they are told as.
 ghost use Rattle.std.specs.Prelude.{◌≡◌};
-ghost use Rattle.reception.specs.Faults.{refusal_of};
+ghost use Rattle.reception.specs.Faults.{refusal_of, lane_of, place_of};
 ghost use Rattle.reception.specs.declared.fault.ReceiveFault.TheVariants.{Block, Lane, Packets};
 
 use crate::fault::{LaneFault, Layer, ReceiveFault, Refusal, Spot};
 use block::BlockFault;
 use packet::PacketFault;
 
+// Written out, since the contract of a `?` reads `from_gives`.
 impl From<BlockFault> for ReceiveFault {
     ghost from_gives = { λ f r. r ≡ Block f };
 
@@ -57,6 +58,28 @@ impl ReceiveFault {
                 layer: Layer::Receiver,
                 spot: Spot::Place(fault.place()),
             },
+        }
+    }
+}
+
+impl Spot {
+    /// The lane that is named, if one is.
+    pub fn lane(self) -> Option<usize>
+        ensures { result ≡ lane_of self }
+    {
+        match self {
+            Spot::Lane(lane) => Some(lane),
+            Spot::Nowhere | Spot::Place(_) => None,
+        }
+    }
+
+    /// The place that is named, if one is.
+    pub fn place(self) -> Option<usize>
+        ensures { result ≡ place_of self }
+    {
+        match self {
+            Spot::Place(place) => Some(place),
+            Spot::Nowhere | Spot::Lane(_) => None,
         }
     }
 }

@@ -1,22 +1,25 @@
 //! Why a block is not received: the fault of each layer, and what it is told as.
 
+use block::BlockFault;
+use packet::PacketFault;
+
 /// No codeword is near enough to this lane.
-#[derive(Clone, Copy)]
+#[derive(Clone, Copy, Debug, PartialEq, Eq)]
 pub struct LaneFault {
     pub lane: usize,
 }
 
 /// Why a block is not received.
-#[derive(Clone, Copy)]
+#[derive(Clone, Copy, Debug, PartialEq, Eq)]
 pub enum ReceiveFault {
     /// The block is refused before any of its bytes is read.
-    Block(block::BlockFault),
+    Block(BlockFault),
     /// The message buffer has not 223 bytes for each lane.
     MessageLength,
     /// A lane has no codeword; no lane before it is without one.
     Lane(LaneFault),
     /// The corrected message does not consist of packets.
-    Packets(packet::PacketFault),
+    Packets(PacketFault),
 }
 
 /// The layer that finds a fault.
@@ -36,6 +39,7 @@ pub enum Spot {
 }
 
 /// What a fault is told as.
+// With its number, and not only as an enum: an answer is these three, and its number is the first word of it.
 #[derive(Clone, Copy, Debug, PartialEq, Eq)]
 pub struct Refusal {
     pub number: u8,

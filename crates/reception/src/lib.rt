@@ -4,6 +4,7 @@
 mod conversion;
 mod fault;
 mod laws;
+mod shown;
 
 pub use fault::{LaneFault, Layer, ReceiveFault, Refusal, Spot};
 pub use laws::{

@@ -1,3 +1,2 @@
-pub mod Exits
 pub mod NoQuestions
 pub mod NoRequests

@@ -1,17 +1,16 @@
 //! The question that stands behind a verb and a kind, at any kind of field element.
-ghost use Rattle.std.specs.Prelude.{◌≡◌, ◌⊎◌, codes, MatchResult};
-ghost use Rattle.tokens.specs.declared.fault.Fault.TheVariants.{Memory};
+ghost use Rattle.std.specs.Prelude.{Some, codes};
 ghost use Rattle.tokens.specs.Words.{Plain};
-ghost use Rattle.requests.specs.Lines.{Asks, NoQuestion};
+ghost use Rattle.requests.specs.Lines.{Poses};
 
 use crate::request::Question;
 use spelling::{Spelled, read_list};
 use std::alloc::Global;
-use tokens::{Fault, Piece, number, word};
+use tokens::{Fault, Piece, count, word};
 
 /// `op K a b`, behind the kind.
 fn operate<F: Spelled>(piece: Piece<'_>) -> Result<Question<F>, Fault>
-    ensures { MatchResult result (λ q. Asks F.written (codes "op") piece.entry.text.now q) (λ f. (f ≡ Memory) ⊎ NoQuestion F.written (codes "op") piece.entry.text.now) }
+    ensures { Poses F.written (codes "op") (Some piece.entry) result }
 {
     let (a, b) = word(piece)?;
     let a = F::read(a)?;
@@ -21,7 +20,7 @@ fn operate<F: Spelled>(piece: Piece<'_>) -> Result<Question<F>, Fault>
 
 /// `eval K poly x`, behind the kind.
 fn evaluate<F: Spelled>(heap: Global, piece: Piece<'_>) -> Result<Question<F>, Fault>
-    ensures { MatchResult result (λ q. Asks F.written (codes "eval") piece.entry.text.now q) (λ f. (f ≡ Memory) ⊎ NoQuestion F.written (codes "eval") piece.entry.text.now) }
+    ensures { Poses F.written (codes "eval") (Some piece.entry) result }
 {
     let (list, x) = word(piece)?;
     let coefficients = read_list(heap, list)?;
@@ -31,7 +30,7 @@ fn evaluate<F: Spelled>(heap: Global, piece: Piece<'_>) -> Result<Question<F>, F
 
 /// `div K buffer by`, behind the kind.
 fn divide<F: Spelled>(heap: Global, piece: Piece<'_>) -> Result<Question<F>, Fault>
-    ensures { MatchResult result (λ q. Asks F.written (codes "div") piece.entry.text.now q) (λ f. (f ≡ Memory) ⊎ NoQuestion F.written (codes "div") piece.entry.text.now) }
+    ensures { Poses F.written (codes "div") (Some piece.entry) result }
 {
     let (buffer, by) = word(piece)?;
     let buffer = read_list(heap, buffer)?;
@@ -41,23 +40,29 @@ fn divide<F: Spelled>(heap: Global, piece: Piece<'_>) -> Result<Question<F>, Fau
 
 /// `root K poly n`, behind the kind.
 fn root<F: Spelled>(heap: Global, piece: Piece<'_>) -> Result<Question<F>, Fault>
-    ensures { MatchResult result (λ q. Asks F.written (codes "root") piece.entry.text.now q) (λ f. (f ≡ Memory) ⊎ NoQuestion F.written (codes "root") piece.entry.text.now) }
+    ensures { Poses F.written (codes "root") (Some piece.entry) result }
 {
     let (list, n) = word(piece)?;
     let coefficients = read_list(heap, list)?;
-    let from = number(n, u64::MAX)? as usize;
+    let from = count(n)?;
     Ok(Question::Root { coefficients, from })
 }
 
-/// The question of a verb, from the text behind the kind.
+/// The question of a verb, from what follows the kind, if anything does.
 pub(crate) fn question<F: Spelled>(
     heap: Global,
     verb: &str,
-    piece: Piece<'_>,
+    rest: Option<Piece<'_>>,
 ) -> Result<Question<F>, Fault>
     requires { Plain verb.now }
-    ensures { MatchResult result (λ q. Asks F.written verb.now piece.entry.text.now q) (λ f. (f ≡ Memory) ⊎ NoQuestion F.written verb.now piece.entry.text.now) }
+    ensures { Poses F.written verb.now rest.entry result }
 {
+    let Some(piece) = rest else {
+        return match verb {
+            "const" => Ok(Question::Constants),
+            _ => Err(Fault::Shape),
+        };
+    };
     match verb {
         "op" => operate(piece),
         "eval" => evaluate(heap, piece),

@@ -1,22 +1,25 @@
 //! The request that a line is.
-ghost use Rattle.std.specs.Prelude.{◌≡◌, ◌⊎◌, codes, MatchResult};
-ghost use Rattle.tokens.specs.declared.fault.Fault.TheVariants.{Memory};
+ghost use Rattle.std.specs.Prelude.{codes};
+ghost use Rattle.tokens.specs.Reads.{Reads};
 ghost use Rattle.tokens.specs.Words.{spaced};
-ghost use Rattle.requests.specs.Lines.{Asking, written, NoRequest};
+ghost use Rattle.requests.specs.Lines.{Asking, kinded, written, NoRequest};
 
 use crate::questions::question;
-use crate::request::Question;
 use crate::requested::Request;
 use std::alloc::Global;
-use tokens::{Fault, Piece, bytes, keyed, number, word};
+use tokens::{Fault, Piece, bytes, keyed, setting, word};
 
-/// The question of a verb at the kind that the next word names.
-fn question_at(heap: Global, verb: &str, piece: Piece<'_>) -> Result<Request, Fault>
-    requires { Asking verb.now }
-    ensures { MatchResult result (λ q. spaced verb.now piece.entry.text.now ≡ written q) (λ f. (f ≡ Memory) ⊎ NoRequest (spaced verb.now piece.entry.text.now)) }
+/// The question of a verb at the kind of a letter, from what follows the letter, if anything does.
+fn question_at(
+    heap: Global,
+    verb: &str,
+    letter: &str,
+    rest: Option<Piece<'_>>,
+) -> Result<Request, Fault>
+    requires { Asking verb.now letter.now rest }
+    ensures { Reads written NoRequest (spaced verb.now (kinded letter.now rest.entry)) result }
 {
-    let (kind, rest) = word(piece)?;
-    match kind.text {
+    match letter {
         "p" => Ok(Request::AtPower(question(heap, verb, rest)?)),
         "d" => Ok(Request::AtDual(question(heap, verb, rest)?)),
         "e" => Ok(Request::AtExponent(question(heap, verb, rest)?)),
@@ -24,33 +27,20 @@ fn question_at(heap: Global, verb: &str, piece: Piece<'_>) -> Result<Request, Fa
     }
 }
 
-/// `const K`, behind the verb.
-fn constants(piece: Piece<'_>) -> Result<Request, Fault>
-    ensures { MatchResult result (λ q. spaced (codes "const") piece.entry.text.now ≡ written q) (λ f. (f ≡ Memory) ⊎ NoRequest (spaced (codes "const") piece.entry.text.now)) }
-{
-    match piece.text {
-        "p" => Ok(Request::AtPower(Question::Constants)),
-        "d" => Ok(Request::AtDual(Question::Constants)),
-        "e" => Ok(Request::AtExponent(Question::Constants)),
-        _ => Err(Fault::Shape),
-    }
-}
-
 /// `check ID depth=D block=HEX`, behind the verb.
 fn check(heap: Global, piece: Piece<'_>) -> Result<Request, Fault>
-    ensures { MatchResult result (λ q. spaced (codes "check") piece.entry.text.now ≡ written q) (λ f. (f ≡ Memory) ⊎ NoRequest (spaced (codes "check") piece.entry.text.now)) }
+    ensures { Reads written NoRequest (spaced (codes "check") piece.entry.text.now) result }
 {
     let (id, rest) = word(piece)?;
-    let (depth, block) = word(rest)?;
-    let depth = number(keyed(depth, "depth=")?, u64::MAX)? as usize;
-    let block = bytes(heap, keyed(block, "block=")?)?;
+    let (depth, rest) = setting(rest, "depth=", u64::MAX)?;
+    let block = bytes(heap, keyed(rest, "block=")?)?;
     let id = String::from_str(heap, id.text)?;
     Ok(Request::Check { id, depth, block })
 }
 
 /// The request that the line is written as.
 pub fn read_request(heap: Global, line: &str) -> Result<Request, Fault>
-    ensures { MatchResult result (λ q. line.now ≡ written q) (λ f. (f ≡ Memory) ⊎ NoRequest line.now) }
+    ensures { Reads written NoRequest line.now result }
 {
     let (verb, rest) = word(Piece {
         text: line,
@@ -58,7 +48,10 @@ pub fn read_request(heap: Global, line: &str) -> Result<Request, Fault>
     })?;
     match verb.text {
         "check" => check(heap, rest),
-        "const" => constants(rest),
-        _ => question_at(heap, verb.text, rest),
+        "const" => question_at(heap, "const", rest.text, None),
+        _ => {
+            let (letter, rest) = word(rest)?;
+            question_at(heap, verb.text, letter.text, Some(rest))
+        }
     }
 }

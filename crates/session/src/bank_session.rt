@@ -1,9 +1,8 @@
 //! The bank of a session.
 use lineup::Built;
 
-/// A bank, and whether it is open.
+/// A session, and the bank that is open in it.
 #[derive(Drop)]
 pub struct Session {
-    pub(crate) built: Built,
-    pub(crate) is_open: bool,
+    pub(crate) open: Option<Built>,
 }

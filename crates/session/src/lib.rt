@@ -6,5 +6,4 @@ mod calling;
 mod objection;
 
 pub use bank_session::Session;
-pub use calling::Outcome;
 pub use objection::Objection;

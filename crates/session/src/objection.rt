@@ -17,6 +17,7 @@ pub enum Objection {
     NoCopy,
 }
 
+// Written out, since clauses read `output`.
 impl fmt::Display for Objection {
     ghost output = { λ o. Some (shown_objection o) };
 

@@ -1,6 +1,6 @@
 -- A list's text, one element more or less.
-use Rattle.std.proofs.Common.{◌≡◌, ℕ, ◌+◌, ◌-◌, ◌<◌, ◌≤◌, List, [], ◌∷◌, ◌++◌, length, get_or, take, drop, sym, refl, ap, ◌∙◌, append_assoc, append-nil, arith, length-append}
-use Rattle.std.proofs.lemmas.List.{take_all, take_more}
+use Rattle.std.proofs.Common.{◌≡◌, ℕ, ◌+◌, ◌<◌, List, [], ◌∷◌, ◌++◌, length, get_or, take, sym, refl, ap, ◌∙◌, append_assoc, append-nil, arith, length-append}
+use Rattle.std.proofs.lemmas.List.{take_more}
 use Rattle.std.specs.Str.Iter.{LacksByte}
 use Rattle.spelling.specs.Lists.{Single, others, written_list, NoList}
 use Rattle.tokens.specs.Words.{Plain}
@@ -36,7 +36,7 @@ module _ {A : Type 0} (written : A → List ℕ) where
   pub read_last : (xs ys : List A) (y : A) (text t : List ℕ) → heads xs ++ text ≡ t → text ≡ written y → ys ≡ xs ++ y ∷ [] → t ≡ written_list written ys
   read_last xs ys y text t sofar is put = sym sofar ∙ ap (λ l. heads xs ++ l) is ∙ sym (list_ends xs y) ∙ ap (written_list written) (sym put)
 
-  -- writing: one element more, and all
+  -- writing: one element more
   others_push : (xs : List A) (x : A) → others written (xs ++ x ∷ []) ≡ others written xs ++ (44 ∷ written x)
   others_push [] x = ap (λ l. 44 ∷ l) (append-nil (written x))
   others_push (y ∷ xs) x = ap (λ l. 44 ∷ written y ++ l) (others_push xs x) ∙ sym (append_assoc (44 ∷ written y) (others written xs) (44 ∷ written x))
@@ -50,19 +50,6 @@ module _ {A : Type 0} (written : A → List ℕ) where
       ∙ ap (λ l. l ++ (44 ∷ written x)) sofar
       ∙ append_assoc before (others written (take i rest)) (44 ∷ written x)
       ∙ ap (λ l. before ++ l) (sym (others_push (take i rest) x) ∙ ap (others written) (sym put))
-
-  first_and_rest : (items : List A) (x : A) → 0 < length items → x ≡ get_or items 0 x → items ≡ x ∷ take (length items - 1) (drop 1 items)
-  first_and_rest [] x some is = absurd (omega arith)
-  first_and_rest (y ∷ items) x some is = sym (λ j. is j ∷ take_all (length (y ∷ items) - 1) items (omega arith) j)
-
-  pub write_all : (items : List A) (i : ℕ) (x : A) (before t1 t2 : List ℕ) → 0 < length items → x ≡ get_or items 0 x → length (take (length items - 1) (drop 1 items)) ≤ i → t1 ≡ before ++ written x → t2 ≡ t1 ++ others written (take i (take (length items - 1) (drop 1 items))) → t2 ≡ before ++ written_list written items
-  write_all items i x before t1 t2 some is done one two =
-      let rest = take (length items - 1) (drop 1 items) in
-      two
-      ∙ ap (λ l. t1 ++ others written l) (take_all i rest done)
-      ∙ ap (λ l. l ++ others written rest) one
-      ∙ append_assoc before (written x) (others written rest)
-      ∙ ap (λ l. before ++ written_list written l) (sym (first_and_rest items x some is))
 
   module _ (plain : (x : A) → Single (written x)) where
     -- what is left of a list's text behind whole elements is a list's text
@@ -100,3 +87,7 @@ module _ {A : Type 0} (written : A → List ℕ) where
     pub plain_list : (xs : List A) → Plain (written_list written xs)
     plain_list [] = (omega arith, lacks_told (45 ∷ []) refl)
     plain_list (x ∷ xs) = (omega (arith, length-append (written x) (others written xs), (plain x).some), lacks_append 32 (written x) (others written xs) (plain x).no_blank (plain_others xs))
+
+-- what may stand in a list is a word
+pub one_word : {w : List ℕ} → Single w → Plain w
+one_word s = (s.some, s.no_blank)

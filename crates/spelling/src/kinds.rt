@@ -1,6 +1,5 @@
 //! Field elements as text, in each of the three kinds.
 ghost use Rattle.std.specs.Prelude.{◌≡◌, ℕ, ◌<◌, List, ◌++◌, string_bytes, decimal, MatchResult, OnOk, ◌≢◌};
-ghost use Rattle.tokens.specs.Bytes.{two_digits as two_digits_of};
 ghost use Rattle.spelling.specs.Kinds.{power_text, dual_text, logarithm_text};
 ghost use Rattle.std.proofs.Common.{rules, arith};
 ghost use Rattle.exponent_form.specs.declared.element.Logarithm.TheVariants.{Star, Of};
@@ -11,45 +10,25 @@ use dual_form::Dual;
 use exponent_form::{Exponent, Logarithm};
 use power_form::Power;
 use std::alloc::AllocError;
-use tokens::fault::Fault;
-use tokens::hex::{byte, write_byte};
-use tokens::numbers::number;
-use tokens::piece::Piece;
-
-/// The byte of two hex digits.
-fn two_digits(piece: Piece<'_>) -> Result<u8, Fault>
-    ensures { MatchResult result (λ b. piece.entry.text.now ≡ two_digits_of b) (λ _. (b : ℕ) → b < 256 → piece.entry.text.now ≢ two_digits_of b) }
-{
-    byte(piece)
-}
+use tokens::{Fault, Piece, byte, number, write_byte};
 
 /// The exponent of a decimal number.
+#[tactic(auto, using(tokens::proofs::Decimals::no_number))]
 fn exponent(piece: Piece<'_>) -> Result<Exponent, Fault>
     ensures { MatchResult result (λ e. piece.entry.text.now ≡ decimal e.number) (λ _. (e : Exponent) → piece.entry.text.now ≢ decimal e.number) }
 {
     let n = number(piece, 254)? as u8;
-    match Exponent::new(n) {
-        Some(e) => Ok(e),
-        None => Err(Fault::Number),
-    }
+    Exponent::new(n).ok_or(Fault::Number)
 }
 
-/// Writes a number in decimal behind the text.
-fn write_number(text: &mut String, number: u8) -> Result<(), AllocError>
-    ensures { OnOk result (string_bytes text.new ≡ string_bytes text.old ++ decimal number) }
-{
-    let heap = *text.allocator();
-    let digits = format!(in heap; "{number}")?;
-    text.push_str(digits.as_str())
-}
-
+// Alike for the two kinds of bytes: all that they share, a byte's two digits read and written, is in `tokens` already.
 impl Spelled for Power {
     ghost written = { power_text };
 
     ghost plain = { Prim.search rules };
 
     fn read(piece: Piece<'_>) -> Result<Power, Fault> {
-        Ok(Power::new(two_digits(piece)?))
+        Ok(Power::new(byte(piece)?))
     }
 
     fn write(self, text: &mut String) -> Result<(), AllocError> {
@@ -63,7 +42,7 @@ impl Spelled for Dual {
     ghost plain = { Prim.search rules };
 
     fn read(piece: Piece<'_>) -> Result<Dual, Fault> {
-        Ok(Dual::new(two_digits(piece)?))
+        Ok(Dual::new(byte(piece)?))
     }
 
     fn write(self, text: &mut String) -> Result<(), AllocError> {
@@ -89,7 +68,7 @@ impl Spelled for Logarithm {
     fn write(self, text: &mut String) -> Result<(), AllocError> {
         match self {
             Logarithm::Star => text.push('*'),
-            Logarithm::Of(e) => write_number(text, e.number),
+            Logarithm::Of(e) => write!(text, "{}", e.number),
         }
     }
 }

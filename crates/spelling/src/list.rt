@@ -5,8 +5,7 @@ ghost use Rattle.spelling.specs.Lists.{written_list, NoList};
 
 use crate::spelled::Spelled;
 use std::alloc::{AllocError, Global};
-use tokens::fault::Fault;
-use tokens::piece::Piece;
+use tokens::{Fault, Piece};
 
 /// The values that the text lists: `-` is none.
 pub fn read_list<S: Spelled>(heap: Global, piece: Piece<'_>) -> Result<Vec<S>, Fault>
@@ -16,19 +15,12 @@ pub fn read_list<S: Spelled>(heap: Global, piece: Piece<'_>) -> Result<Vec<S>, F
     if piece.text == "-" {
         return Ok(out);
     }
-    let mut text = piece.text;
-    let mut column = piece.column;
-    while let Some((first, rest)) = text.split_once(',') {
-        let item = S::read(Piece {
-            text: first,
-            column,
-        })?;
-        out.push(item)?;
-        column = column.saturating_add(first.len()).saturating_add(1);
-        text = rest;
+    let mut rest = piece;
+    while let Some((first, more)) = rest.cut(',') {
+        out.push(S::read(first)?)?;
+        rest = more;
     }
-    let last = S::read(Piece { text, column })?;
-    out.push(last)?;
+    out.push(S::read(rest)?)?;
     Ok(out)
 }
 

@@ -3,9 +3,9 @@ ghost use Rattle.std.specs.Prelude.{◌≡◌, ℕ, List, ◌++◌, string_bytes
 ghost use Rattle.spelling.specs.Lists.{Single};
 
 use std::alloc::AllocError;
-use tokens::fault::Fault;
-use tokens::piece::Piece;
+use tokens::{Fault, Piece};
 
+// No `Display`: it would stand in the elements' own crates, which fly and have no text.
 pub trait Spelled: Copy {
     ghost written: { Self → List ℕ };
 

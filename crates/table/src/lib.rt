@@ -4,17 +4,11 @@
 ghost use Rattle.std.specs.Prelude.{◌≡◌, true, ℕ, get_or};
 ghost use Rattle.table.specs.Computed.{tabulates};
 
-/// What stands at k.
-fn at(table: &[u8; 256], k: u8) -> u8
-    ensures { result ≡ get_or table.now k 0 }
-{
-    table[k as usize]
-}
-
 /// What stands at k; in a table that lists a function's values, the function's value at k.
+#[tactic(auto, using(crate::proofs::Tests::tabulated))]
 pub fn entry(table: &[u8; 256], k: u8) -> u8
     ensures read { result ≡ get_or table.now k 0 }
     ensures listed { (f : ℕ → ℕ) → tabulates 256 f table.now ≡ true → result ≡ f k }
 {
-    at(table, k)
+    table[k as usize]
 }

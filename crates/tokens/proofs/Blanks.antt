@@ -1,10 +1,14 @@
 -- A text is cut at the first of a byte, as a blank or a comma, in one way.
-use Rattle.std.proofs.Common.{◌≡◌, ℕ, zero, suc, Bool, true, false, cond, eqb, List, [], ◌∷◌, ◌++◌, length, get_or, sym, refl, ap, ◌∙◌, arith, length-append}
+use Rattle.std.proofs.Common.{◌≡◌, ℕ, ◌<◌, zero, suc, Bool, true, false, not, cond, eqb, Option, None, Some, IfSome, MatchOption, MatchResult, List, [], ◌∷◌, ◌++◌, length, get_or, sym, refl, ap, ◌∙◌, arith, length-append}
+use Rattle.std.specs.Option.{ok_or}
+use Rattle.std.proofs.lemmas.Map.Entries.{option_filter}
+use Rattle.tokens.specs.declared.fault.Fault.TheVariants.{Shape}
 use lib.Seq.{get_or-append_seam}
 use Rattle.std.proofs.lemmas.Bool.Decides.{nat_tests}
 use Rattle.std.specs.Str.Iter.{LacksByte}
 use Rattle.tokens.specs.declared.piece.Piece.{Piece}
-use Rattle.tokens.specs.Words.{spaced, Plain, Cut}
+use Rattle.tokens.specs.Columns.{ahead}
+use Rattle.tokens.specs.Words.{spaced, Plain, Cut, CutAt}
 
 pub cut_once : (s : ℕ) (a b c d : List ℕ) → LacksByte s a → LacksByte s c → a ++ s ∷ b ≡ c ++ s ∷ d → (a ≡ c) × (b ≡ d)
 cut_once s [] b [] d la lc e = (refl, cc)
@@ -28,15 +32,25 @@ pub lacks_append : (s : ℕ) (a b : List ℕ) → LacksByte s a → LacksByte s 
 lacks_append s [] b la lb = lb
 lacks_append s (x ∷ a) b la lb = lacks_cons s x (a ++ b) (la 0 (omega arith)) (lacks_append s a b (λ k lt. la (suc k) (omega arith)) lb)
 
--- no word and blank at all
-pub none : (t : List ℕ) → LacksByte 32 t → (a b : List ℕ) → Plain a → t ≡ spaced a b → ⊥
-none t lacks a b plain e = no_cut 32 t a b lacks e
+module _ (whole : Piece) where
+  -- a word is what stands before the first blank, if that has a byte
+  abbrev pub some_byte : Piece × Piece → Bool
+  some_byte p = not (eqb (length p.0.text.now) 0)
 
--- a blank in front
-pub not_empty : (t first rest : List ℕ) → t ≡ spaced first rest → LacksByte 32 first → length first ≡ 0 → (a b : List ℕ) → Plain a → t ≡ spaced a b → ⊥
-not_empty t first rest e lacks none_in a b plain f =
-    let same = cut_once 32 first rest a b lacks plain.1 (sym e ∙ f) in
-    omega (arith, ap length same.0, plain.0)
+  abbrev pub NoWord : Type 0
+  NoWord = (a b : List ℕ) → Plain a → whole.text.now ≡ spaced a b → ⊥
+
+  first_byte : (first rest : Piece) (empty : Bool) → eqb (length first.text.now) 0 ≡ empty → CutAt 32 whole.text.now first.text.now rest.text.now → (first.column ≡ whole.column) × (rest.column ≡ ahead (ahead whole.column (length first.text.now)) 1) → MatchResult {T = Piece × Piece} (ok_or (cond (not empty) (Some (first, rest)) None) Shape) (λ p. Cut whole p.0 p.1) (λ f. (f ≡ Shape) × NoWord)
+  first_byte first rest true is cut columns =
+      let none : length first.text.now ≡ 0 = grind (arith, nat_tests) in
+      (refl, λ a b plain e. omega (arith, ap length (cut_once 32 first.text.now rest.text.now a b cut.lacks plain.1 (sym cut.text ∙ e)).0, plain.0))
+  first_byte first rest false is cut columns =
+      let some : 0 < length first.text.now = grind (arith, nat_tests) in
+      record { text = cut.text; plain = (some, cut.lacks); starts = columns.0; goes = columns.1 }
+
+  pub first_word : (found : Option (Piece × Piece)) → MatchOption found (LacksByte 32 whole.text.now) (λ p. CutAt 32 whole.text.now p.0.text.now p.1.text.now) → IfSome found (λ p. (p.0.column ≡ whole.column) × (p.1.column ≡ ahead (ahead whole.column (length p.0.text.now)) 1)) → MatchResult (ok_or (option_filter some_byte found) Shape) (λ p. Cut whole p.0 p.1) (λ f. (f ≡ Shape) × NoWord)
+  first_word None lacks none = (refl, λ a b plain e. no_cut 32 whole.text.now a b lacks e)
+  first_word (Some (first, rest)) cut columns = first_byte first rest (eqb (length first.text.now) 0) refl cut columns
 
 -- the first word and the rest are what the text is written from
 pub parted : {whole first rest : Piece} → Cut whole first rest → (a b : List ℕ) → Plain a → whole.text.now ≡ spaced a b → (first.text.now ≡ a) × (rest.text.now ≡ b)
@@ -60,8 +74,3 @@ lacks_told (x ∷ w) h = lacks_cons 32 x w (λ e. first x (no_blank w) h e) (lac
 
     later : (x : ℕ) (b : Bool) → cond (eqb x 32) false b ≡ true → b ≡ true
     later x b h = grind (arith, nat_tests)
-
--- what stands behind a key is one text
-pub unkeyed : (key a b : List ℕ) → key ++ a ≡ key ++ b → a ≡ b
-unkeyed [] a b e = e
-unkeyed (x ∷ key) a b e = unkeyed key a b (cc)

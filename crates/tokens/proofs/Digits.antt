@@ -1,5 +1,5 @@
 -- One byte more of a hex text, and texts that spell no bytes.
-use Rattle.std.proofs.Common.{◌≡◌, ℕ, zero, suc, ◌+◌, ◌-◌, ◌*◌, ◌/◌, ◌%◌, ◌<◌, ◌≤◌, true, false, cond, ◌⊎◌, List, [], ◌∷◌, ◌++◌, length, get_or, take, drop, is_ok, IfOk, Ok, Err, Result, sym, refl, ap, ◌∙◌, subst, inl, inr, ⊎_elim, true≢false, append_assoc, append-nil, arith, length-append, MatchResult}
+use Rattle.std.proofs.Common.{◌≡◌, ℕ, zero, suc, ◌+◌, ◌-◌, ◌*◌, ◌/◌, ◌%◌, ◌<◌, ◌≤◌, true, false, ◌⊎◌, List, [], ◌∷◌, ◌++◌, length, get_or, take, drop, Ok, Err, Result, sym, refl, ap, ◌∙◌, subst, inl, inr, ⊎_elim, true≢false, append_assoc, append-nil, arith, length-append, MatchResult}
 use Rattle.std.proofs.lemmas.List.{get_or-append_right, take_all}
 use Rattle.std.proofs.lemmas.Bool.Decides.{nat_tests}
 use Rattle.std.specs.Char.{digit_char}
@@ -7,8 +7,6 @@ use Rattle.tokens.specs.declared.fault.Fault.{Fault}
 use Rattle.tokens.specs.declared.fault.Fault.TheVariants.{Memory, Shape, Key, Digit, Half, Number, Long, Text}
 use Rattle.tokens.specs.Bytes.{is_hex, two_digits, spelled, shown_bytes, Bytes, NoBytes, NoDigit, BadBytes, BadByte}
 use Rattle.tokens.specs.Columns.{ahead}
-use Rattle.tokens.specs.Words.{Plain}
-use Rattle.tokens.proofs.Blanks.{lacks_told}
 
 -- columns add up
 pub ahead_ahead : (c m n : ℕ) → ahead (ahead c m) n ≡ ahead c (m + n)
@@ -26,13 +24,6 @@ two_more : (rest : List ℕ) → 2 ≤ length rest → (get_or rest 0 0 ∷ get_
 two_more [] h = absurd (omega arith)
 two_more (a ∷ []) h = absurd (omega arith)
 two_more (a ∷ b ∷ more) h = ap (λ l. a ∷ b ∷ l) (take_all _ more (omega arith))
-
--- a text of two bytes
-pub two : (t : List ℕ) → length t ≡ 2 → get_or t 0 0 ∷ get_or t 1 0 ∷ [] ≡ t
-two [] h = absurd (omega arith)
-two (a ∷ []) h = absurd (omega arith)
-two (a ∷ b ∷ []) h = refl
-two (a ∷ b ∷ d ∷ t) h = absurd (omega arith)
 
 -- the text so far, with one byte more
 pub again : (xs ys rest t : List ℕ) (b : ℕ) → spelled xs ++ rest ≡ t → ys ≡ xs ++ b ∷ [] → 2 ≤ length rest → get_or rest 0 0 ∷ get_or rest 1 0 ∷ [] ≡ two_digits b → spelled ys ++ take (length rest - 2) (drop 2 rest) ≡ t
@@ -85,21 +76,6 @@ whole xs (x ∷ rest) t sofar none = absurd (omega arith)
 pub odd : (xs rest b t : List ℕ) → spelled xs ++ rest ≡ b → b ≡ t → length rest ≡ 1 → length t % 2 ≡ 1
 odd xs rest b t sofar same one = omega (arith, ap length sofar, ap length same, length-append (spelled xs) rest, length_spelled xs)
 
--- two characters, one behind the other
-pub two_pushed : {E : Type 0} (r : Result (Unit {0}) E) (before between after first second : List ℕ) (x y : ℕ) → between ≡ before ++ first → first ≡ x ∷ [] → after ≡ cond (is_ok r) (between ++ second) between → second ≡ y ∷ [] → IfOk r (λ _. after ≡ before ++ x ∷ y ∷ [])
-two_pushed (Ok u) before between after first second x y p one q other =
-    q ∙ ap (λ l. l ++ second) (p ∙ ap (λ l. before ++ l) one) ∙ append_assoc before (x ∷ []) second ∙ ap (λ l. before ++ x ∷ l) other
-two_pushed (Err e) before between after first second x y p one q other = tt
-
-digit_ascii : (d : ℕ) → d < 16 → digit_char d < 128
-digit_ascii d h = grind (arith, nat_tests)
-
--- the text of a digit's character is one byte
-pub one_digit : (text : List ℕ) (ch d : ℕ) → (ch < 128 → text ≡ ch ∷ []) → ch ≡ digit_char d → d < 16 → text ≡ digit_char d ∷ []
-one_digit text ch d ascii e small =
-    let low = digit_ascii d small in
-    ascii (subst (λ n. n < 128) (sym e) low) ∙ ap (λ n. n ∷ []) e
-
 -- the digits of a byte
 hex_digit : (d : ℕ) → d < 16 → is_hex (digit_char d) ≡ true
 hex_digit d h = grind (arith, nat_tests)
@@ -149,15 +125,10 @@ not_shown : (t : List ℕ) → (t ≡ 45 ∷ [] → ⊥) → ((bs : List ℕ) �
 not_shown t no_dash none [] ok e = no_dash e
 not_shown t no_dash none (b ∷ bs) ok e = none (b ∷ bs) ok e
 
-some_shown : (t bs : List ℕ) → 0 < length t → t ≡ spelled bs → t ≡ shown_bytes bs
-some_shown t [] some e = absurd (omega (arith, ap length e))
+some_shown : (t bs : List ℕ) → (t ≡ [] → ⊥) → t ≡ spelled bs → t ≡ shown_bytes bs
+some_shown t [] some e = absurd (some e)
 some_shown t (b ∷ bs) some e = e
 
-pub refuted : {T : Type 0} (items : T → List ℕ) (r : Result T Fault) (c : ℕ) (t : List ℕ) → MatchResult r (λ v. t ≡ spelled (items v)) (λ f. BadBytes f c t) → 0 < length t → (t ≡ 45 ∷ [] → ⊥) → MatchResult r (λ v. t ≡ shown_bytes (items v)) (λ f. (f ≡ Memory) ⊎ NoBytes t)
+pub refuted : {T : Type 0} (items : T → List ℕ) (r : Result T Fault) (c : ℕ) (t : List ℕ) → MatchResult r (λ v. t ≡ spelled (items v)) (λ f. BadBytes f c t) → (t ≡ [] → ⊥) → (t ≡ 45 ∷ [] → ⊥) → MatchResult r (λ v. t ≡ shown_bytes (items v)) (λ f. (f ≡ Memory) ⊎ NoBytes t)
 refuted items (Ok v) c t h some no_dash = some_shown t (items v) some h
 refuted items (Err f) c t h some no_dash = ⊎_elim (λ m. inl m) (λ none. inr (not_shown t no_dash none)) (refutes f c t h)
-
--- bytes as text are one word
-pub plain_shown : (bs : List ℕ) → Bytes bs → Plain (shown_bytes bs)
-plain_shown [] ok = (omega arith, λ k lt e. lacks_told (45 ∷ []) refl k lt e)
-plain_shown (b ∷ bs) ok = (omega arith, λ k lt e. true≢false (sym (all_hex (b ∷ bs) ok k lt) ∙ ap is_hex e))

@@ -12,6 +12,11 @@ spaced a b = a ++ 32 ∷ b
 abbrev pub Plain : List ℕ → Type 0
 Plain w = (0 < length w) × LacksByte 32 w
 
+-- what stands before the first of a byte, and what stands behind it
+pub record CutAt (mark : ℕ) (whole first rest : List ℕ) : Type 0 where
+  pub text : whole ≡ first ++ mark ∷ rest
+  pub lacks : LacksByte mark first
+
 -- a word, and what follows the blank after it, at their columns
 pub record Cut (whole first rest : Piece) : Type 0 where
   pub text : whole.text.now ≡ spaced first.text.now rest.text.now

@@ -26,6 +26,7 @@ pub enum Fault {
     Text { column: usize },
 }
 
+// Written out, since clauses read `from_gives` here and `output` below.
 impl From<AllocError> for Fault {
     ghost from_gives = { λ _ r. r ≡ Memory };
 
@@ -50,17 +51,11 @@ impl fmt::Display for Fault {
             Fault::Memory => write!(f, "no memory"),
             Fault::Shape => write!(f, "no such request"),
             Fault::Key => write!(f, "another key is expected"),
-            Fault::Digit { column } => {
-                let column = *column;
-                write!(f, "no digit at column {column}")
-            }
+            Fault::Digit { column } => write!(f, "no digit at column {column}"),
             Fault::Half => write!(f, "half a byte at the end"),
             Fault::Number => write!(f, "no number in range"),
             Fault::Long => write!(f, "the line is too long"),
-            Fault::Text { column } => {
-                let column = *column;
-                write!(f, "no text from column {column} on")
-            }
+            Fault::Text { column } => write!(f, "no text from column {column} on"),
         }
     }
 }

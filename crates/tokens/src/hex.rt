@@ -9,6 +9,7 @@ use crate::piece::Piece;
 use std::alloc::{AllocError, Global};
 
 /// The value of the hex digit at a column.
+// `to_digit(16)` takes upper case too, which is no digit here.
 fn digit(b: u8, column: usize) -> Result<u8, Fault>
     ensures { MatchResult result (λ d. (d < 16) × (b ≡ digit_char d)) (λ f. (f ≡ Digit column) × (is_hex b ≡ false)) }
 {
@@ -35,6 +36,7 @@ pub fn hex_bytes(heap: Global, piece: Piece<'_>) -> Result<Vec<u8>, Fault>
     let bytes = piece.text.as_bytes();
     let mut out = Vec::new(heap);
     let mut rest = bytes;
+    // No `chunks_exact(2)`: each byte's digits have their column, and are refused before an odd digit at the end is.
     while let [high, low, more @ ..] = rest {
         let column = piece.column.saturating_add(bytes.len() - rest.len());
         let b = pair(*high, *low, column)?;
@@ -51,13 +53,11 @@ pub fn hex_bytes(heap: Global, piece: Piece<'_>) -> Result<Vec<u8>, Fault>
 pub fn bytes(heap: Global, piece: Piece<'_>) -> Result<Vec<u8>, Fault>
     ensures { MatchResult result (λ v. piece.entry.text.now ≡ shown_bytes v.items) (λ f. (f ≡ Memory) ⊎ NoBytes piece.entry.text.now) }
 {
-    if piece.text == "-" {
-        return Ok(Vec::new(heap));
+    match piece.text {
+        "-" => Ok(Vec::new(heap)),
+        "" => Err(Fault::Shape),
+        _ => hex_bytes(heap, piece),
     }
-    if piece.text.is_empty() {
-        return Err(Fault::Shape);
-    }
-    hex_bytes(heap, piece)
 }
 
 /// The byte that a text of two hex digits is.
@@ -71,22 +71,10 @@ pub fn byte(piece: Piece<'_>) -> Result<u8, Fault>
     }
 }
 
-/// The character of a hex digit.
-fn digit_of(value: u8) -> char
-    requires { value < 16 }
-    ensures { result ≡ digit_char value }
-{
-    if value < 10 {
-        (b'0' + value) as char
-    } else {
-        (b'a' + (value - 10)) as char
-    }
-}
-
 /// Writes the two digits of a byte behind the text.
+#[tactic(auto, using(std::proofs::lemmas::Fmt::hex_byte))]
 pub fn write_byte(text: &mut String, b: u8) -> Result<(), AllocError>
     ensures { OnOk result (string_bytes text.new ≡ string_bytes text.old ++ two_digits b) }
 {
-    text.push(digit_of(b / 16))?;
-    text.push(digit_of(b % 16))
+    write!(text, "{b:02x}")
 }

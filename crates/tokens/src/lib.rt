@@ -1,14 +1,14 @@
 //! Text as a console reads and writes it: words, numbers and bytes in hex, and why a text is refused.
 #![tactic(auto)]
 
-pub mod fault;
-pub mod hex;
-pub mod numbers;
-pub mod piece;
-pub mod words;
+mod fault;
+mod hex;
+mod numbers;
+mod piece;
+mod words;
 
 pub use fault::Fault;
 pub use hex::{byte, bytes, hex_bytes, write_byte};
-pub use numbers::number;
+pub use numbers::{count, number};
 pub use piece::Piece;
-pub use words::{keyed, word};
+pub use words::{keyed, setting, word};

@@ -1,10 +1,9 @@
-use Rattle.std.proofs.Common.{refl}
-use Rattle.field.proofs.Ring.{Lawful}
 use Rattle.code.specs.Code.{telemetry}
+use Rattle.polynomial.proofs.Lawful.{lawful}
+use Rattle.std.proofs.Common.{refl, rules}
 use Rattle.correction.proofs.Endings.{clean_word}
 use Rattle.correction.proofs.correct.Goals as goal
 
-pub returns-then-all_zero : goal.returns-then-all_zero
-returns-then-all_zero g c full leaves =
-    let F : Lawful _ = record { ops = g.F.Field.ops; laws = g.met.F.Field.laws } in
-    clean_word F telemetry c.args.word.now c.args.remainder.now c.symbols_of.ensures leaves (c.if-all_zero.ensures.zero refl)
+pub returns-then-is_zero : goal.returns-then-is_zero
+returns-then-is_zero g c full leaves =
+    clean_word (lawful g.met.F.Field.laws) telemetry c.args.word.now c.args.remainder.now (search rules) leaves (c.if-is_zero.ensures.zero refl)

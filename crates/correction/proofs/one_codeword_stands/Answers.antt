@@ -1,10 +1,10 @@
 use Rattle.code.specs.Code.{telemetry}
 use Rattle.generator.proofs.Computed.{generators}
+use Rattle.polynomial.proofs.Lawful.{lawful}
 use Rattle.locator.proofs.Corrected.{corrections}
-use Rattle.field.proofs.Ring.{Lawful}
 use Rattle.correction.proofs.one_codeword_stands.Goals as goal
 
 pub returns : goal.returns
 returns g c full =
-    let F : Lawful _ = record { ops = g.F.Field.ops; laws = g.met.F.Field.laws } in
+    let F = lawful g.met.F.Field.laws in
     (corrections F telemetry ((generators F).telemetry_fits full)).one

@@ -1,38 +1,54 @@
-use Rattle.std.proofs.Common.{◌≡◌, length, replicate, refl, ap, subst, arith, rules}
-use Rattle.field.proofs.Ring.{Lawful}
+use Rattle.std.proofs.Common.{◌*◌, ◌^◌, ◌<◌, sym, subst, arith, rules}
+use prog.Memory.{size}
+use denote.Param.{copied, layout}
 use Rattle.polynomial.specs.Coefficients.{coeff}
+use Rattle.polynomial.proofs.Lawful.{lawful}
 use Rattle.code.specs.Code.{telemetry}
-use Rattle.locator.specs.Recurrence.{Recurrence}
 use Rattle.generator.proofs.Computed.{generators}
-use Rattle.correction.proofs.Endings.{values_syndromes, leaves_syndromes, far_degree, tried}
+use Rattle.correction.specs.Correcting.{Removed, Tried}
+use Rattle.correction.proofs.Room.{locator_fits, shortest_fits}
+use Rattle.correction.proofs.Endings.{leaves_syndromes, whole, far_degree, tried}
 use Rattle.correction.proofs.try_correct.Goals as goal
 
-pub shortest_recurrence-found-requires : goal.shortest_recurrence-found-requires
-shortest_recurrence-found-requires g c =
-    (omega arith, (ap (replicate 33) c.zero-poly.ensures, (ap (replicate 33) c.zero-old.ensures, search rules)))
+pub of-requires : goal.of-requires
+of-requires g c =
+    let fits : 255 * size (layout (copied 0 g.row.F)) < 2 ^ 63 = search rules in
+    (omega (arith, fits), shortest_fits g.row.F g.F.Field g.F.PartialEq fits)
 
-pub returns-then-not-within_limit : goal.returns-then-not-within_limit
-returns-then-not-within_limit g c full leaves =
-    let F : Lawful _ = record { ops = g.F.Field.ops; laws = g.met.F.Field.laws } in
-    let long : length c.values_at-syndromes.result ≡ 32 = search rules in
-    far_degree F telemetry ((generators F).telemetry_fits full) c.args.word.now (coeff F.ops c.values_at-syndromes.result)
-    (leaves_syndromes F telemetry c.args.word.now c.args.remainder.now (coeff F.ops c.values_at-syndromes.result) leaves
-    (values_syndromes F telemetry c.args.remainder.now c.powers-roots.result c.values_at-syndromes.result c.gamma_to-lead.result c.gamma-base.result 33 (omega arith)
-    c.gamma_to-lead.ensures c.gamma-base.ensures c.powers-roots.ensures c.values_at-syndromes.ensures))
-    c.shortest_recurrence-found.new.poly c.shortest_recurrence-found.result.degree c.shortest_recurrence-found.new.old c.shortest_recurrence-found.result.miss (subst (λ n. Recurrence F.ops (coeff F.ops c.values_at-syndromes.result) n c.shortest_recurrence-found.new.poly c.shortest_recurrence-found.result.degree c.shortest_recurrence-found.new.old c.shortest_recurrence-found.result.miss) long c.shortest_recurrence-found.ensures.holds)
-    (c.if-not-within_limit.ensures.beyond refl)
+pub new-requires : goal.new-requires
+new-requires g c =
+    let fits : 255 * size (layout (copied 0 g.row.F)) < 2 ^ 63 = search rules in
+    (shortest_fits g.row.F g.F.Field g.F.PartialEq fits, locator_fits g.row.F g.F.Field g.F.PartialEq fits)
 
 pub remove_errors-requires : goal.remove_errors-requires
 remove_errors-requires g c =
-    (omega arith, (omega arith, (omega arith, (c.requires, (search rules, (c.shortest_recurrence-found.ensures.long, (c.gamma-base.ensures, (c.gamma_to-lead.ensures, (c.if-not-within_limit.ensures.within refl, c.shortest_recurrence-found.ensures.holds.monic.above)))))))))
+    let fits : 255 * size (layout (copied 0 g.row.F)) < 2 ^ 63 = search rules in
+    (fits, (locator_fits g.row.F g.F.Field g.F.PartialEq fits, omega (arith, fits)))
+
+pub returns-in_err-locator : goal.returns-in_err-locator
+returns-in_err-locator g c full leaves =
+    let F = lawful g.met.F.Field.laws in
+    let found = c.of.result in
+    let syndromes = c.syndromes_of-syndromes in
+    let word = c.args.word.now in
+    subst (Tried F.ops telemetry word word) (sym c.from_residual.ensures)
+    (far_degree F telemetry ((generators F).telemetry_fits full) word (coeff F.ops syndromes.result)
+    (leaves_syndromes F telemetry word c.args.remainder.now (coeff F.ops syndromes.result) leaves syndromes.ensures) found.poly found.degree found.before found.miss
+    (whole F telemetry found.sequence syndromes.result found.places found.poly found.degree found.before found.miss c.of.ensures.sequence c.of.ensures.places found.stands)
+    c.in_err-locator.ensures.refused)
 
 pub returns : goal.returns
 returns g c full leaves =
-    let F : Lawful _ = record { ops = g.F.Field.ops; laws = g.met.F.Field.laws } in
-    let long : length c.values_at-syndromes.result ≡ 32 = search rules in
-    tried F telemetry ((generators F).telemetry_fits full) c.args.word.now (coeff F.ops c.values_at-syndromes.result)
-    (leaves_syndromes F telemetry c.args.word.now c.args.remainder.now (coeff F.ops c.values_at-syndromes.result) leaves
-    (values_syndromes F telemetry c.args.remainder.now c.powers-roots.result c.values_at-syndromes.result c.gamma_to-lead.result c.gamma-base.result 33 (omega arith)
-    c.gamma_to-lead.ensures c.gamma-base.ensures c.powers-roots.ensures c.values_at-syndromes.ensures))
-    c.shortest_recurrence-found.new.poly c.shortest_recurrence-found.result.degree c.shortest_recurrence-found.new.old c.shortest_recurrence-found.result.miss (subst (λ n. Recurrence F.ops (coeff F.ops c.values_at-syndromes.result) n c.shortest_recurrence-found.new.poly c.shortest_recurrence-found.result.degree c.shortest_recurrence-found.new.old c.shortest_recurrence-found.result.miss) long c.shortest_recurrence-found.ensures.holds)
-    c.requires (c.if-not-within_limit.ensures.within refl) c.remove_errors.new.word c.remove_errors.result c.remove_errors.ensures
+    let F = lawful g.met.F.Field.laws in
+    let found = c.of.result in
+    let locator = c.in_ok-locator.locator in
+    let kept = c.in_ok-locator.ensures.kept in
+    let syndromes = c.syndromes_of-syndromes in
+    let word = c.args.word.now in
+    let after = c.remove_errors.new.word in
+    tried F telemetry ((generators F).telemetry_fits full) word (coeff F.ops syndromes.result)
+    (leaves_syndromes F telemetry word c.args.remainder.now (coeff F.ops syndromes.result) leaves syndromes.ensures) found.poly found.degree found.before found.miss
+    (whole F telemetry found.sequence syndromes.result found.places found.poly found.degree found.before found.miss c.of.ensures.sequence c.of.ensures.places found.stands)
+    (search rules) (omega (arith, locator.few, kept.1)) after c.remove_errors.result
+    (subst (λ p. Removed F.ops telemetry p found.degree (coeff F.ops syndromes.result) word after c.remove_errors.result) kept.0
+    (subst (λ n. Removed F.ops telemetry locator.coefficients n (coeff F.ops syndromes.result) word after c.remove_errors.result) kept.1 c.remove_errors.ensures))

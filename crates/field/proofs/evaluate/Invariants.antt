@@ -1,6 +1,8 @@
-use Rattle.std.proofs.Common.{◌≡◌, drop}
-use Rattle.field.proofs.Horner.{horner}
+use Rattle.std.proofs.Common.{◌≡◌}
+use Rattle.field.specs.Polynomial.{value}
+use Rattle.field.proofs.Horner.{horner_above}
 use Rattle.field.proofs.evaluate.Given as goal
 
-abbrev pub invariant-loop-i : goal.invariant-loop-i
-invariant-loop-i g l = l.sum ≡ horner g.F.Field.ops (drop l.i l.coefficients) l.x
+-- What is left, above the sum so far, gives the value.
+abbrev pub invariant-loop-coefficient : goal.invariant-loop-coefficient
+invariant-loop-coefficient g l = horner_above g.F.Field.ops l.coefficient-iterator.iter.rest.now l.x l.sum ≡ value g.F.Field.ops l.coefficients l.x

@@ -1,8 +1,8 @@
-use Rattle.field.proofs.Ring.{Lawful}
+use Rattle.polynomial.proofs.Lawful.{lawful}
 use Rattle.polynomial.proofs.Remainders.{exists, one_remainder, one_list}
 use Rattle.polynomial.proofs.one_remainder_stands.Goals as goal
 
 pub returns : goal.returns
 returns g c =
-    let F : Lawful _ = record { ops = g.F.Field.ops; laws = g.met.F.Field.laws } in
+    let F = lawful g.met.F.Field.laws in
     record { exists = exists F; unique = one_remainder F; exactly = one_list F }

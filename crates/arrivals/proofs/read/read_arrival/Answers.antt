@@ -1,5 +1,5 @@
 use Rattle.std.proofs.Common.{sym, subst, inr}
-use Rattle.calls.proofs.Exits.{refused}
+use Rattle.tokens.proofs.Exits.{refused}
 use Rattle.arrivals.specs.Lines.{NoArrival}
 use Rattle.arrivals.proofs.NoArrivals.{no_words, no_verb}
 use Rattle.arrivals.proofs.read.read_arrival.Goals as goal

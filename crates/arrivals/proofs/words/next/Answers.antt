@@ -1,5 +1,5 @@
 use Rattle.tokens.proofs.Blanks.{parted}
-use Rattle.calls.proofs.Exits.{handed_on}
+use Rattle.tokens.proofs.Exits.{handed_on}
 use Rattle.arrivals.proofs.NoArrivals.{no_next}
 use Rattle.arrivals.proofs.words.next.Goals as goal
 

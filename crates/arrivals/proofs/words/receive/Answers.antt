@@ -2,9 +2,9 @@ use Rattle.std.proofs.Common.{codes, refl, arith}
 use Rattle.std.specs.Str.Iter.{LacksByte}
 use Rattle.tokens.specs.Bytes.{shown_bytes}
 use Rattle.tokens.proofs.Blanks.{parted, lacks_told}
-use Rattle.calls.proofs.Exits.{refused, handed_on}
+use Rattle.tokens.proofs.Exits.{refused, handed_on}
 use Rattle.arrivals.proofs.NoArrivals.{no_receive}
-use Rattle.arrivals.proofs.Settings.{behind_key, behind_setting}
+use Rattle.tokens.proofs.Settings.{behind_key, behind_setting}
 use Rattle.arrivals.proofs.words.receive.Goals as goal
 
 depth : LacksByte 32 (codes "depth=")
@@ -17,14 +17,14 @@ pub returns-in_err-depth : goal.returns-in_err-depth
 returns-in_err-depth c =
     refused _ _ c.from_residual-in_err-depth.ensures.0
     (no_receive _ (λ id d n block plain low small ok e.
-    c.in_err-depth.ensures d _ (omega arith) (parted c.in_ok-id.ensures _ _ plain e).1))
+    c.in_err-depth.ensures depth d _ (omega arith) (parted c.in_ok-id.ensures _ _ plain e).1))
 
 pub returns-in_err-length : goal.returns-in_err-length
 returns-in_err-length c =
     refused _ _ c.from_residual-in_err-length.ensures.0
     (no_receive _ (λ id d n block plain low small ok e.
     let p = (parted c.in_ok-id.ensures _ _ plain e).1 in
-    c.in_err-length.ensures n _ small (behind_setting (codes "depth=") _ depth (omega arith) c.in_ok-depth.ensures (omega arith) p)))
+    c.in_err-length.ensures size n _ small (behind_setting (codes "depth=") _ depth (omega arith) c.in_ok-depth.ensures (omega arith) p)))
 
 pub returns-in_err-keyed : goal.returns-in_err-keyed
 returns-in_err-keyed c =

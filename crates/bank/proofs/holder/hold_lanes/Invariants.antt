@@ -1,6 +1,6 @@
-use Rattle.std.proofs.Common.{◌≡◌, length, take}
+use Rattle.std.proofs.Common.{◌≡◌, take}
 use Rattle.bank.specs.Lanes.{elements}
 use Rattle.bank.proofs.holder.hold_lanes.Given as goal
 
 abbrev pub invariant-loop-lane : goal.invariant-loop-lane
-invariant-loop-lane g l = (length l.copy ≡ 8) × (take l.lane (elements l.copy) ≡ take l.lane (g.B.Bank.lanes l.bank))
+invariant-loop-lane g l = take l.lane (elements l.rows) ≡ take l.lane (g.B.Bank.lanes l.bank)

@@ -1,6 +1,6 @@
 use Rattle.std.proofs.Common.{sym, subst, inr}
 use Rattle.calls.specs.Lines.{NoCall}
-use Rattle.calls.proofs.Exits.{refused}
+use Rattle.tokens.proofs.Exits.{refused}
 use Rattle.calls.proofs.NoCalls.{no_words, no_verb}
 use Rattle.calls.proofs.read.worded.Goals as goal
 

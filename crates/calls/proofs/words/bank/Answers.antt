@@ -1,5 +1,5 @@
 use Rattle.tokens.proofs.Blanks.{parted}
-use Rattle.calls.proofs.Exits.{refused}
+use Rattle.tokens.proofs.Exits.{refused}
 use Rattle.calls.proofs.NoCalls.{no_bank}
 use Rattle.calls.proofs.words.bank.Goals as goal
 

@@ -1,7 +1,9 @@
-use Rattle.std.proofs.Common.{◌≡◌, take}
+use Rattle.std.proofs.Common.{◌≡◌}
 use Rattle.polynomial.specs.Coefficients.{coeff}
 use Rattle.locator.specs.Applied.{applied}
 use Rattle.correction.proofs.recurrence.apply.Given as goal
 
-abbrev pub invariant-loop-i : goal.invariant-loop-i
-invariant-loop-i g l = l.sum ≡ applied g.F.Field.ops (take l.i l.poly) (coeff g.F.Field.ops l.sequence) l.at
+abbrev pub invariant-loop-a : goal.invariant-loop-a
+invariant-loop-a g l =
+    let o = g.F.Field.ops in
+    o.sum l.sum (applied o l.a-iterator.a.rest.now (coeff o l.a-iterator.b.rest.now) 0) ≡ applied o l.poly (coeff o l.sequence) 0

@@ -1,9 +1,6 @@
-use Rattle.std.proofs.Common.{◌≡◌, ℕ, ◌<◌, length, drop}
-use Rattle.field.specs.Polynomial.{value}
-use Rattle.polynomial.specs.Coefficients.{coeff}
+use Rattle.polynomial.proofs.Lawful.{lawful}
+use Rattle.correction.proofs.Rows.{Halfway}
 use Rattle.correction.proofs.syndromes.values_at.Given as goal
 
-abbrev pub invariant-loop-i : goal.invariant-loop-i
-invariant-loop-i g l =
-    let o = g.F.Field.ops in
-    ((k : ℕ) → k < 32 → coeff o l.values k ≡ value o (drop l.i l.coefficients) (coeff o l.points k)) × (length l.values ≡ 32)
+abbrev pub invariant-loop-coefficient : goal.invariant-loop-coefficient
+invariant-loop-coefficient g l = Halfway (lawful g.met.F.Field.laws) l.coefficients l.points l.values l.coefficient-iterator.iter.rest.now

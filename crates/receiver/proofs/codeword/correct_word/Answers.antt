@@ -10,7 +10,7 @@ use Rattle.receiver.proofs.codeword.correct_word.Goals as goal
 
 pub returns-then-is_zero : goal.returns-then-is_zero
 returns-then-is_zero c =
-    clean_word c.args.bytes.now c.remainder_of-remainder.result c.told-bytes c.remainder_of-remainder.ensures (c.is_zero.ensures c.if-is_zero.true)
+    clean_word c.args.bytes.now c.remainder_of-remainder.result c.told-bytes c.remainder_of-remainder.ensures (c.is_zero.ensures.zero c.if-is_zero.true)
 
 pub returns : goal.returns
 returns c =

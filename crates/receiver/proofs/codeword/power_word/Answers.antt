@@ -1,18 +1,12 @@
-use Rattle.std.proofs.Common.{ℕ, ◌-◌, get_or, set, ap, ◌∙◌, arith, length-set}
-use Rattle.std.proofs.lemmas.List.Edits.{fill_by_more}
+use Rattle.std.proofs.Common.{◌≡◌, map, reverse, ap, ◌∙◌, rules}
 use Rattle.power_form.specs.PowerForm.{element}
-use Rattle.power_form.specs.declared.element.Power.{Power}
 use Rattle.dual_form.specs.DualForm.{symbol, power_of_dual}
-use Rattle.receiver.proofs.Words.{power_word_filled}
+use Rattle.block.proofs.Arrays.{array_mapped}
+use Rattle.receiver.proofs.Words.{power_word_is}
 use Rattle.receiver.proofs.codeword.power_word.Goals as goal
 
-pub loop-k-preserved : goal.loop-k-preserved
-loop-k-preserved c =
-    let at : ℕ → Power = λ j. power_of_dual (symbol (get_or c.args.bytes.now (254 - j) 0)) in (
-      simp length-set c.loop-k.invariant.0,
-      λ j h. ap (λ x. get_or (set c.loop-k.word c.loop-k.k x) j (element 0)) (c.to_power.ensures ∙ ap power_of_dual c.new.ensures)
-          ∙ fill_by_more at c.loop-k.word c.loop-k.k (element 0) (omega (arith, c.loop-k.invariant.0)) c.loop-k.invariant.1 j h,
-    )
-
 pub returns : goal.returns
-returns c = power_word_filled c.args.bytes.now c.loop-k.word c.told-bytes c.loop-k.invariant.0 (λ k h. c.loop-k.invariant.1 k (omega arith))
+returns c =
+    let made : c.map-word.result ≡ map (λ b. power_of_dual (symbol b)) c.args.bytes.now =
+    array_mapped _ _ (λ b. power_of_dual (symbol b)) 255 (λ x y q called. search rules) c.args.bytes.now c.map-word.result 0 (element 0) c.told-bytes c.map-word.ensures.items in
+    c.reverse.ensures.after ∙ ap reverse made ∙ power_word_is c.args.bytes.now

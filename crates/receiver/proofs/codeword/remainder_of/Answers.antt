@@ -1,15 +1,23 @@
-use Rattle.std.proofs.Common.{◌≡◌, map, length, take, sym, ap, ◌∙◌, arith}
-use Rattle.std.proofs.lemmas.List.{length-map}
+use Rattle.std.proofs.Common.{◌≡◌, [], map, length, get_or, take, ap, ◌∙◌, arith, rules}
+use Rattle.std.specs.List.{range_with_len}
 use Rattle.code.specs.Code.{telemetry}
-use Rattle.dual_form.specs.DualForm.{symbol}
-use Rattle.divider.proofs.Messages.{long}
-use Rattle.reception.proofs.One.{dual_field}
-use Rattle.receiver.proofs.Remainders.{remainder_found}
+use Rattle.power_form.specs.PowerForm.{element}
+use Rattle.dual_form.specs.DualForm.{symbol, dual_ops}
+use Rattle.divider.specs.Registers.{registers}
+use Rattle.bank.specs.Lanes.{zeros, all_stepped}
+use Rattle.block.proofs.Arrays.{array_made}
+use Rattle.receiver.proofs.Remainders.{sums, remainder_found}
 use Rattle.receiver.proofs.codeword.remainder_of.Goals as goal
 
 pub returns : goal.returns
+unfolding zeros all_stepped
 returns c =
-    let held = c.registers_of-registers.result in
-    let took = c.registers_of-registers.ensures in
-    let size : length held ≡ 32 = sym (length-map held symbol) ∙ ap length took ∙ long dual_field telemetry (map symbol (take 223 c.args.bytes.now)) in
-    remainder_found c.args.bytes.now held c.told-bytes size took c.loop-i.remainder c.loop-i.invariant.0 (λ i h. c.loop-i.invariant.1 i (omega arith))
+    let bytes = c.args.bytes.now in
+    let held = c.divide-registers.result in
+    let took : map symbol held ≡ registers dual_ops telemetry (map symbol (take 223 bytes)) =
+    c.divide-registers.ensures ∙ ap (λ ls. all_stepped (get_or ls 0 []) (take 223 bytes)) c.new.ensures in
+    let size : length held ≡ 32 = omega arith in
+    let each = sums bytes held c.told-bytes size took in
+    let made : c.from_fn.result ≡ map each (range_with_len 0 32) =
+    array_made _ _ each 32 (λ i y q h called. search rules) c.from_fn.result (element 0) c.from_fn.ensures.items in
+    remainder_found bytes held c.told-bytes size took c.from_fn.result made
