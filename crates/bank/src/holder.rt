@@ -11,7 +11,7 @@ use crate::{Bank, BankFault, LANES, Pair, REGISTERS, read_all};
 #[derive(Drop)]
 pub struct Holder<B: Bank> {
     bank: B,
-    // Rows for the most lanes that there are, since there is no heap on board; as many as the bank has lanes count.
+    // Rows for the most lanes that there are: how many count is the bank's own number of lanes, which a length kept with them would say again.
     copy: [[u8; REGISTERS]; LANES],
 }
 

@@ -22,7 +22,7 @@ pub const REGISTERS: usize = code::CHECKS as usize;
 pub const LANES: usize = 8;
 
 /// Lanes of registers, each of which takes symbols as a divider does.
-// A lane and a place stay two numbers: requests give them so, and no fact binds the one to the other.
+// A lane and a place stay two numbers: requests give them so, and no fact binds the one to the other, so that a struct would be no plainer.
 pub trait Bank {
     // the registers of each lane, R_0 first
     ghost lanes: { Self → Lanes };

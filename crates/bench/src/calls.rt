@@ -32,6 +32,7 @@ pub fn bank_line<B: Bank>(heap: Global, id: &str, bank: &B) -> Result<String, Al
     ensures { IfOk result (λ s. string_bytes s ≡ bank_line_of id.now (B.Bank.lanes bank.now)) }
 {
     let lanes = bank.count();
+    // The 32 is said again: with `{REGISTERS}` in its place, the proof of the text did not close.
     format!(in heap; "bank {id} = {lanes} 32")
 }
 

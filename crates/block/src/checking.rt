@@ -13,7 +13,7 @@ fn first_broken(block: &Block) -> Verdict
     ensures { found result ≡ first_broken_of block.now.depth.lanes block.now.bytes.now block.now.depth.lanes 0 }
 {
     let step: Dual = gamma();
-    // Two loops left by one label: it is the first lane and, in it, the first root that is told.
+    // Two loops left by one label, a form that the project fixes: it is the first lane and, in it, the first root that is told.
     'lanes: {
         for lane in 0..block.depth.lanes {
             let symbols = block.word(lane);

@@ -42,7 +42,8 @@ fn try_correct<F: Field>(word: &mut [F; SYMBOLS], remainder: &[F; CHECKS]) -> Op
     remove_errors(word, locator, syndromes, gamma)
 }
 
-// The order of α stands as a premise in each contract: the trait leaves it open, and no caller is asked for anything.
+// The order of α stands as a premise in each of these contracts: the trait leaves it open, and a bound or a law would ask of every caller what
+// only this crate needs.
 
 /// Leaves in place of a word, C_0 first, that leaves this remainder by the generator the codeword that differs from it in at most 16 symbols, and
 /// answers in how many. Refuses, with the word as it was, where there is no such codeword.

@@ -57,6 +57,7 @@ fn answer_arrival(heap: Global, arrival: Arrival) -> Result<String, AllocError>
 }
 
 /// The reply to a line that is neither a call nor about what arrived, for this fault.
+// As the desk replies, but that another fault may be told: with that choice as a closure, both contracts would have to speak of it.
 fn reply_to_request(
     heap: Global,
     number: u64,

@@ -1,7 +1,7 @@
 //! What is said to a line.
 
 /// Nothing to a line that is passed over, or an answer, or why the line is no request.
-// No Option of a Result: with the error of an allocation around it there would be three layers, and each of these cases counts in its own way.
+// No Option of a Result: each of the three is counted in its own way, and has a name of its own for it.
 #[derive(Drop)]
 pub enum Reply {
     Nothing,

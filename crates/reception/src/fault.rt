@@ -39,7 +39,7 @@ pub enum Spot {
 }
 
 /// What a fault is told as.
-// With its number, and not only as an enum: an answer is these three, and its number is the first word of it.
+// Its number is a field, since the project's answers are told so: a number, a layer, and a lane or a place.
 #[derive(Clone, Copy, Debug, PartialEq, Eq)]
 pub struct Refusal {
     pub number: u8,

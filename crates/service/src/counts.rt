@@ -6,22 +6,13 @@ use desk::Reply;
 use std::fmt;
 
 /// How many lines were answered, and how many refused; neither passes `u64::MAX`.
-#[derive(Clone, Copy)]
+#[derive(Clone, Copy, Default)]
 pub(crate) struct Counts {
     pub(crate) answered: u64,
     pub(crate) refused: u64,
 }
 
 impl Counts {
-    pub(crate) fn new() -> Counts
-        ensures { (result.answered ≡ 0) × (result.refused ≡ 0) }
-    {
-        Counts {
-            answered: 0,
-            refused: 0,
-        }
-    }
-
     /// Counts a reply.
     pub(crate) fn count(&mut self, reply: &Reply)
         ensures { self.old.answered + self.old.refused < 2 ^ 64 - 1

@@ -7,7 +7,7 @@ use desk::Reply;
 use std::alloc::{AllocError, Global};
 
 /// What a replier keeps lasts from line to line.
-// A line's number and its text stay two: the text is read without the number, which only a refusal tells.
+// A line's number and its text stay two: the text is read without the number, which only a refusal tells, and a struct would be no plainer.
 pub trait Replier {
     // What may be said to a line with a number, and what is kept before and after it.
     ghost Says: { Self → ℕ → List ℕ → SaidReply → Self → Type 0 };

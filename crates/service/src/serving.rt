@@ -58,7 +58,7 @@ pub fn serve<D: Replier, R: BufRead, W: Write>(
         → (text : List ℕ) × (W.contents output.new ≡ Some (before ++ text)) × Served D.Says (lines_of xs) 1 0 0 replier.old text replier.new))) }
 {
     let mut line = Vec::new(heap);
-    let mut counts = Counts::new();
+    let mut counts = Counts::default();
     for number in 1..u64::MAX {
         let Some(read) = next_line(input, &mut line)? else {
             break;

@@ -37,6 +37,7 @@ impl Session {
     }
 
     /// Carries a call out and answers it with a line, or refuses it.
+    // A result in a result: an objection is an answer, beside which memory may run out; one error of both would be taken apart again by the caller.
     pub fn call(
         &mut self,
         heap: Global,

@@ -5,7 +5,7 @@ ghost use Rattle.spelling.specs.Lists.{Single};
 use std::alloc::AllocError;
 use tokens::{Fault, Piece};
 
-// No `Display`: it would stand in the elements' own crates, which fly and have no text.
+// No `Display`: it could be implemented in the elements' own crates alone, away from `read`, with which the written form is shared.
 pub trait Spelled: Copy {
     ghost written: { Self → List ℕ };
 

@@ -36,7 +36,6 @@ pub fn hex_bytes(heap: Global, piece: Piece<'_>) -> Result<Vec<u8>, Fault>
     let bytes = piece.text.as_bytes();
     let mut out = Vec::new(heap);
     let mut rest = bytes;
-    // No `chunks_exact(2)`: each byte's digits have their column, and are refused before an odd digit at the end is.
     while let [high, low, more @ ..] = rest {
         let column = piece.column.saturating_add(bytes.len() - rest.len());
         let b = pair(*high, *low, column)?;
