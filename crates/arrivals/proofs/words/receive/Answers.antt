@@ -17,28 +17,28 @@ pub returns-in_err-depth : goal.returns-in_err-depth
 returns-in_err-depth c =
     refused _ _ c.from_residual-in_err-depth.ensures.0
     (no_receive _ (λ id d n block plain low small ok e.
-    c.in_err-depth.ensures depth d _ (omega arith) (parted c.in_ok-id.ensures _ _ plain e).1))
+    c.in_err-depth.ensures.told depth d _ (omega arith) (parted c.in_ok-id.ensures _ _ plain e).1))
 
 pub returns-in_err-length : goal.returns-in_err-length
 returns-in_err-length c =
     refused _ _ c.from_residual-in_err-length.ensures.0
     (no_receive _ (λ id d n block plain low small ok e.
     let p = (parted c.in_ok-id.ensures _ _ plain e).1 in
-    c.in_err-length.ensures size n _ small (behind_setting (codes "depth=") _ depth (omega arith) c.in_ok-depth.ensures (omega arith) p)))
+    c.in_err-length.ensures.told size n _ small (behind_setting (codes "depth=") _ depth (omega arith) c.in_ok-depth.ensures.told (omega arith) p)))
 
 pub returns-in_err-keyed : goal.returns-in_err-keyed
 returns-in_err-keyed c =
     refused _ _ c.from_residual-in_err-keyed.ensures.0
     (no_receive _ (λ id d n block plain low small ok e.
     let p = (parted c.in_ok-id.ensures _ _ plain e).1 in
-    let q = behind_setting (codes "depth=") _ depth (omega arith) c.in_ok-depth.ensures (omega arith) p in
-    c.in_err-keyed.ensures.1 (shown_bytes block) (behind_setting (codes "msglen=") _ size (omega arith) c.in_ok-length.ensures small q)))
+    let q = behind_setting (codes "depth=") _ depth (omega arith) c.in_ok-depth.ensures.told (omega arith) p in
+    c.in_err-keyed.ensures.1 (shown_bytes block) (behind_setting (codes "msglen=") _ size (omega arith) c.in_ok-length.ensures.told small q)))
 
 pub returns-in_err-block : goal.returns-in_err-block
 returns-in_err-block c =
     handed_on _ c.from_residual-in_err-block.result c.from_residual-in_err-block.ensures.1 c.in_err-block.ensures
     (λ none. no_receive _ (λ id d n block plain low small ok e.
     let p = (parted c.in_ok-id.ensures _ _ plain e).1 in
-    let q = behind_setting (codes "depth=") _ depth (omega arith) c.in_ok-depth.ensures (omega arith) p in
-    let last = behind_setting (codes "msglen=") _ size (omega arith) c.in_ok-length.ensures small q in
+    let q = behind_setting (codes "depth=") _ depth (omega arith) c.in_ok-depth.ensures.told (omega arith) p in
+    let last = behind_setting (codes "msglen=") _ size (omega arith) c.in_ok-length.ensures.told small q in
     none block ok (behind_key c.in_ok-keyed.ensures (shown_bytes block) last)))

@@ -13,19 +13,19 @@ depth = lacks_told (codes "depth=") refl
 pub returns-in_err-depth : goal.returns-in_err-depth
 returns-in_err-depth c =
     refused _ _ c.from_residual-in_err-depth.ensures.0
-    (no_check _ (λ id d bs plain small ok e. c.in_err-depth.ensures depth d _ (omega arith) (parted c.in_ok-id.ensures _ _ plain e).1))
+    (no_check _ (λ id d bs plain small ok e. c.in_err-depth.ensures.told depth d _ (omega arith) (parted c.in_ok-id.ensures _ _ plain e).1))
 
 pub returns-in_err-keyed : goal.returns-in_err-keyed
 returns-in_err-keyed c =
     refused _ _ c.from_residual-in_err-keyed.ensures.0
     (no_check _ (λ id d bs plain small ok e.
     let p = (parted c.in_ok-id.ensures _ _ plain e).1 in
-    c.in_err-keyed.ensures.1 (shown_bytes bs) (behind_setting (codes "depth=") _ depth (omega arith) c.in_ok-depth.ensures (omega arith) p)))
+    c.in_err-keyed.ensures.1 (shown_bytes bs) (behind_setting (codes "depth=") _ depth (omega arith) c.in_ok-depth.ensures.told (omega arith) p)))
 
 pub returns-in_err-block : goal.returns-in_err-block
 returns-in_err-block c =
     handed_on _ c.from_residual-in_err-block.result c.from_residual-in_err-block.ensures.1 c.in_err-block.ensures
     (λ none. no_check _ (λ id d bs plain small ok e.
     let p = (parted c.in_ok-id.ensures _ _ plain e).1 in
-    let q = behind_setting (codes "depth=") _ depth (omega arith) c.in_ok-depth.ensures (omega arith) p in
+    let q = behind_setting (codes "depth=") _ depth (omega arith) c.in_ok-depth.ensures.told (omega arith) p in
     none bs ok (behind_key c.in_ok-keyed.ensures (shown_bytes bs) q)))
