@@ -75,7 +75,7 @@ told_alike a b j k p there same =
     ap (λ x. cond (nat_lt j (length a) && nat_lt p 32) (Ok (coeff dual_ops x p).byte) (Err NoSuchRegister)) same
     ∙ ap (λ t. cond (t && nat_lt p 32) (Ok (at b k p)) (Err NoSuchRegister)) there
 
-among : (l r : Lanes) (k : ℕ) → k < length (beside l r) → k < 8
+pub among : (l r : Lanes) (k : ℕ) → k < length (beside l r) → k < 8
 among l r k there = let e = length_beside l r in omega arith
 
 module _ {l r : Lanes} {k j : ℕ} (on : OnLeft l r k j) where

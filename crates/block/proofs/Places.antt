@@ -1,9 +1,9 @@
 -- The places of a lane in a block, and the lane turned round, C_0 first.
-use Rattle.std.proofs.Common.{◌≡◌, ℕ, ◌+◌, ◌-◌, ◌*◌, ◌/◌, ◌%◌, ◌<◌, cond, List, map, length, get_or, Some, None, ap, ◌∙◌, lt-ltb, zero-add, arith}
+use Rattle.std.proofs.Common.{◌≡◌, ℕ, ◌+◌, ◌-◌, ◌*◌, ◌/◌, ◌%◌, ◌<◌, cond, List, map, length, get_or, Some, None, sym, ap, ◌∙◌, lt-ltb, zero-add, arith}
 use lib.ListN.{length-reverse}
 use Rattle.std.proofs.lemmas.Nat.{div-add-mod', div_below}
 use Rattle.std.proofs.lemmas.List.{get_or-map, get_or-reverse, length-map}
-use Rattle.std.proofs.lemmas.List.FromFn.{get_or-map-range_with_len, length-map-range_with_len}
+use Rattle.std.proofs.lemmas.List.FromFn.{fill_by_all, get_or-map-range_with_len, length-map-range_with_len}
 use Rattle.dual_form.specs.DualForm.{symbol, dual_ops}
 use Rattle.dual_form.specs.declared.element.Dual.{Dual}
 use Rattle.block.specs.Lanes.{lane, lane_of, word, Interleaved}
@@ -39,6 +39,12 @@ word_at d block l k x h =
     ∙ ap (λ i. get_or (map symbol bytes) i x) at
     ∙ get_or-map symbol bytes (254 - k) 0 x (omega (arith, length_lane 255 d block l))
     ∙ ap symbol (lane_at 255 d block l (254 - k) (omega arith))
+
+-- The lane is what a loop over its places reads.
+pub word_filled : (d : ℕ) (block : List ℕ) (l : ℕ) (xs : List Dual) → length xs ≡ 255 → ((k : ℕ) → k < 255 → get_or xs k (symbol 0) ≡ symbol (get_or block ((254 - k) * d + l) 0)) → xs ≡ word d block l
+word_filled d block l xs long each =
+    fill_by_all (λ k. symbol (get_or block ((254 - k) * d + l) 0)) xs 255 (symbol 0) long each
+    ∙ sym (fill_by_all (λ k. symbol (get_or block ((254 - k) * d + l) 0)) (word d block l) 255 (symbol 0) (length_word d block l) (λ k h. word_at d block l k (symbol 0) h))
 
 pub interleaved : Interleaved
 interleaved d block m some long within =

@@ -52,9 +52,9 @@ impl<'a> Block<'a> {
         requires { lane < self.now.depth.lanes }
         ensures { result ≡ word self.now.depth.lanes self.now.bytes.now lane }
     {
-        let mut symbols = self.lane(lane).unwrap().map(Dual::new);
-        symbols.reverse();
-        symbols
+        // By an array's `map`, a check that breaks at its first sum takes a third longer.
+        let bytes = self.lane(lane).unwrap();
+        array::from_fn(|k| Dual::new(bytes[SYMBOLS - 1 - k]))
     }
 }
 

@@ -73,7 +73,7 @@ module _ {K : Type 0} (F : Lawful K) where
     }
 
     module _ (terms : List K) (x scale : K) (i : ℕ) (now_held : AtPlace terms x scale i) (n : ℕ) (above : (k : ℕ) → n ≤ k → coeff F.ops poly k ≡ 𝟎) where
-      terms_above : (j : ℕ) → n ≤ j → coeff F.ops terms j ≡ 𝟎
+      pub terms_above : (j : ℕ) → n ≤ j → coeff F.ops terms j ≡ 𝟎
       terms_above j h = now_held.terms_are j ∙ ap (λ t. t ⊗ power F.ops x j) (above j h) ∙ zero_mul F _
 
       -- the sum of the first n terms is the polynomial's value

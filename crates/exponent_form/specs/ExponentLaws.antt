@@ -8,7 +8,7 @@ use Rattle.field.specs.Field.{Laws, mapped}
 use Rattle.field.proofs.Carried.{carried_laws}
 use Rattle.power_form.specs.Arithmetic.{times_alpha, alpha_byte, product, exponent, inverse}
 use Rattle.power_form.specs.Bounds.{exponent_below}
-use Rattle.power_form.specs.PowerForm.{element, power_ops}
+use Rattle.power_form.specs.PowerForm.{element, power_ops, exponent_if}
 use Rattle.power_form.specs.declared.element.Power.{Power}
 use Rattle.table.proofs.Tests.{below}
 use Rattle.power_form.specs.ByteLaws.{exponent_of_power, power_of_exponent, powers_product, power_mod, product_zero}
@@ -25,6 +25,11 @@ exponent_equal {x} {y} e = λ i. record { number = e i; below = is_prop→PathP 
 pub power_positive : (n : ℕ) → n < 255 → 0 < alpha_byte n
 unfolding alpha_byte times_alpha
 power_positive n h = leb→le 1 (alpha_byte n) (below 255 (λ n. nat_lt 0 (alpha_byte n)) tt n h)
+
+-- What an exponent that was found says of its byte.
+pub exponent_found : (b : Bool) (a n : ℕ) → Some n ≡ exponent_if b a → (b ≡ false) × (n ≡ exponent a)
+exponent_found true a n e = absurd (let z : ◌≡◌ {A = ℕ} 0 1 = cc in omega arith)
+exponent_found false a n e = (refl, cc)
 
 -- The logarithm of a byte that is not zero.
 pub logarithm_some : (a : ℕ) (e : Exponent) → 0 < a → exponent a ≡ e.number → logarithm_if (a == 0) a ≡ Of e

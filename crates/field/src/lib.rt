@@ -75,7 +75,7 @@ pub fn first_root<F: Field>(coefficients: &[F], from: usize) -> Option<usize>
     ensures { result ≡ first_root_of F.ops coefficients.now from }
 {
     let order = F::order();
-    let start = u8::try_from(from).ok()?;
+    let start = u8::try_from(from).ok().filter(|n| *n < order)?;
     let mut x = power(F::alpha(), start);
     // A `find` would have to keep x in its closure, and what a closure that changes gives is not known to the proof.
     for n in start..order {

@@ -33,7 +33,7 @@ module _ {K : Type 0} (F : Lawful K) where
   shift_others (suc s) zero y p n = simp clauses
   shift_others (suc s) (suc i) y p n = simp clauses (shift_others s i y p (λ e. n (omega arith)))
 
-  length_shift : (n : ℕ) (p : List K) → length (shift F.ops n p) ≡ n + length p
+  pub length_shift : (n : ℕ) (p : List K) → length (shift F.ops n p) ≡ n + length p
   length_shift zero p = simp (clauses, nat_zero_add)
   length_shift (suc n) p = simp (clauses, suc-add) (ap suc (length_shift n p))
 

@@ -1,11 +1,11 @@
 -- A turn of long division: the top coefficient that is left goes away, and the sum of a multiple and the rest stays.
-use Rattle.std.proofs.Common.{◌≡◌, ℕ, zero, suc, ◌+◌, ◌-◌, ◌<◌, ◌≤◌, ◌⊎◌, List, [], ◌∷◌, length, get_or, Some, None, sym, ap, ◌∙◌, subst, ap₂, inl, inr, arith}
-use Rattle.std.proofs.lemmas.Bool.{cases_eq}
+use Rattle.std.proofs.Common.{◌≡◌, ℕ, zero, suc, ◌+◌, ◌-◌, ◌<◌, ◌≤◌, ◌⊎◌, List, [], ◌∷◌, length, get_or, take, Some, None, sym, ap, ◌∙◌, subst, ap₂, inl, inr, arith, length-take-le}
+use Rattle.std.proofs.lemmas.Bool.{cases_eq, cases_lt}
 use Rattle.field.proofs.Ring.{Lawful, ring, mul_assoc, mul_comm}
 use Rattle.polynomial.specs.Coefficients.{coeff, Same, plus, times, shift, Degree, Remainder}
 use Rattle.polynomial.specs.Division.{Reduced}
 use Rattle.polynomial.proofs.Clauses.{coeffs, clauses, coeff_plus}
-use Rattle.polynomial.proofs.Entries.{coeff_past, coeff_read}
+use Rattle.polynomial.proofs.Entries.{coeff_past, coeff_read, coeff_take}
 use Rattle.polynomial.proofs.Algebra.{times_plus, shift_above}
 use Rattle.polynomial.proofs.Remainders.{one_list}
 use Rattle.polynomial.proofs.Degrees.{degree_inside, one_degree}
@@ -16,6 +16,20 @@ module _ {K : Type 0} (F : Lawful K) where
 
   infixl 60 ◌⊕◌
   infixl 70 ◌⊗◌
+  -- a polynomial has its coefficients up to its degree
+  front : (by : List K) (m : ℕ) → Degree F.ops by m → (i : ℕ) → coeff F.ops (take (m + 1) by) i ≡ coeff F.ops by i
+  front by m deg i = go (cases_lt i (m + 1))
+    where
+      go : (i < m + 1) ⊎ (m + 1 ≤ i) → coeff F.ops (take (m + 1) by) i ≡ coeff F.ops by i
+      go (inl h) = coeff_take F.ops by (m + 1) i h
+      go (inr h) =
+          coeff_past F.ops _ i (let e = length-take-le (m + 1) by (let w = degree_inside F.ops by m deg in omega arith) in omega arith) ∙ sym (deg.above i (omega arith))
+
+  shift_same : (k : ℕ) (p q : List K) → Same F.ops p q → Same F.ops (shift F.ops k p) (shift F.ops k q)
+  shift_same zero p q s i = simp clauses (s i)
+  shift_same (suc k) p q s zero = simp clauses
+  shift_same (suc k) p q s (suc i) = simp clauses (shift_same k p q s i)
+
   nought_alone : (i : ℕ) → coeff F.ops (𝟎 ∷ []) i ≡ 𝟎
   nought_alone zero = simp clauses
   nought_alone (suc i) = simp clauses
@@ -41,7 +55,10 @@ module _ {K : Type 0} (F : Lawful K) where
   divide_start buffer by m n h = (([], λ i. simp coeffs), λ i l. coeff_past F.ops buffer i (omega arith))
 
   module _ (start buffer last by : List K) (m n : ℕ) (a f reciprocal : K) (deg : Degree F.ops by m) (some : 0 < n) (room : n - 1 + m < length buffer) (is_a : a ≡ get_or buffer (n - 1 + m) a)
-      (inverts : coeff F.ops by m ⊗ reciprocal ≡ 𝟏) (is_f : f ≡ a ⊗ reciprocal) (long : length last ≡ length buffer) (added : Added F buffer last (n - 1) f by) where
+      (inverts : coeff F.ops by m ⊗ reciprocal ≡ 𝟏) (is_f : f ≡ a ⊗ reciprocal) (long : length last ≡ length buffer) (front_added : Added F buffer last (n - 1) f (take (m + 1) by)) where
+    added : Added F buffer last (n - 1) f by
+    added i h = front_added i h ∙ ap (λ t. coeff F.ops buffer i ⊕ f ⊗ t) (shift_same (n - 1) _ _ (front by m deg) i)
+
     -- no coefficient is lost beyond the buffer
     added_by : (i : ℕ) → coeff F.ops last i ≡ coeff F.ops buffer i ⊕ f ⊗ coeff F.ops (shift F.ops (n - 1) by) i
     added_by = added_all F buffer last (n - 1) f by long added past

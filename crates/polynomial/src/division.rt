@@ -33,11 +33,13 @@ pub fn divide<F: Field>(buffer: &mut [F], by: &[F]) -> Option<()>
 {
     let m = degree(by)?;
     let reciprocal = by[m].reciprocal()?;
+    // Zeros that `by` has on top would add nothing, in every turn.
+    let divisor = &by[..m + 1];
     let turns = buffer.len().saturating_sub(m);
     // k is a power of x, and no walk over the buffer: each turn changes a stretch of it.
     for k in (0..turns).rev() {
         let f = buffer[k + m].times(reciprocal);
-        add_multiple(buffer, k, f, by);
+        add_multiple(buffer, k, f, divisor);
     }
     Some(())
 }

@@ -23,7 +23,7 @@ module _ {D : Type 0} (lanes : D → Lanes) where
   row_at banks k d h = get_or-map (λ d. get_or (lanes d) 0 []) banks k d [] h
 
   -- A bank whose only lane became x, in its row.
-  changed : (banks : List D) (k : ℕ) (before after : D) (x : List Dual) → 0 < length (lanes before)
+  pub changed : (banks : List D) (k : ℕ) (before after : D) (x : List Dual) → 0 < length (lanes before)
       → lanes after ≡ slice_set (lanes before) 0 x → row lanes (slice_set banks k after) ≡ slice_set (row lanes banks) k x
   unfolding row
   changed banks k before after x some e =
@@ -74,7 +74,7 @@ module _ {D : Type 0} (lanes : D → Lanes) where
     pub past_kept : (x : List Dual) → row lanes banks ≡ slice_set (row lanes banks) k x
     past_kept x = sym (set_past _ _ _ off)
 
-  row_wide : ((d : D) → length (lanes d) ≡ 1) → ((d : D) → Shaped (lanes d)) → (banks : List D) (k : ℕ) → k < length banks → length (slice_index_or (row lanes banks) k []) ≡ 32
+  pub row_wide : ((d : D) → length (lanes d) ≡ 1) → ((d : D) → Shaped (lanes d)) → (banks : List D) (k : ℕ) → k < length banks → length (slice_index_or (row lanes banks) k []) ≡ 32
   unfolding row
   row_wide single shape [] k h = absurd (omega arith)
   row_wide single shape (d ∷ ds) zero h = (shape d).wide 0 (omega (arith, single d))

@@ -10,6 +10,7 @@ use Rattle.std.proofs.lemmas.Result.{OkIff-at_ok}
 use Rattle.std.proofs.lemmas.Fmt.{decimal-digits_value, decimal_nonempty, digits_decimal, parse-decimal, first_decimal, decimal_digit}
 use Rattle.tokens.specs.declared.fault.Fault.{Fault}
 use Rattle.tokens.specs.declared.fault.Fault.TheVariants.{Memory, Shape, Key, Digit, Half, Number, Long, Text}
+use Rattle.std.specs.Str.Iter.{LacksByte}
 use Rattle.tokens.specs.Numbers.{AllDigits, NoNumber, BadNumber}
 use Rattle.tokens.specs.Words.{Plain}
 use Rattle.std.proofs.str.Laws.{order}
@@ -20,18 +21,18 @@ own = numerals_by_value _ tells_by_index
 
 -- what a parse says of the text
 module _ {E : Type 0} (t : List ℕ) (r : Result ℕ E) (h : ParsesUnsigned 64 10 t r) where
-  read : (n : ℕ) → AllDigits t → (get_or t 0 0 ≡ 48 → length t ≤ 1) → r ≡ Ok n → t ≡ decimal n
+  pub read : (n : ℕ) → AllDigits t → (get_or t 0 0 ≡ 48 → length t ≤ 1) → r ≡ Ok n → t ≡ decimal n
   read n all lead e =
       let p = OkIff-at_ok r _ _ n (parse_digits own 64 t r h all) e in
       sym (ap decimal p.1 ∙ decimal-digits_value own t all p.0.0 (λ z. let a = lead z in omega (arith, p.0.0)) p.0.1)
 
-  unread : (d : E) → r ≡ Err d → (n : ℕ) → n < 2 ^ 64 → t ≡ decimal n → ⊥
+  pub unread : (d : E) → r ≡ Err d → (n : ℕ) → n < 2 ^ 64 → t ≡ decimal n → ⊥
   unread d bad n small e =
       let good = parse-decimal 64 n t r small small e h in
       let z : ◌≡◌ {A = ℕ} 0 1 = cc in
       omega arith
 
-  over : (m most : ℕ) → r ≡ Ok m → most < m → (n : ℕ) → n ≤ most → n < 2 ^ 64 → t ≡ decimal n → ⊥
+  pub over : (m most : ℕ) → r ≡ Ok m → most < m → (n : ℕ) → n ≤ most → n < 2 ^ 64 → t ≡ decimal n → ⊥
   over m most got large n below small e =
       let good = parse-decimal 64 n t r small small e h in
       let same : m ≡ n = cc in
@@ -71,3 +72,7 @@ no_number (Text at) most c t h n le small e = h
 -- and a number has a digit, and no blank
 pub plain_decimal : (n : ℕ) → n < 2 ^ 64 → Plain (decimal n)
 plain_decimal n small = (decimal_nonempty n small, λ k lt e. let d = digits_decimal own n small k lt in omega arith)
+
+-- no byte of a number is below the digit zero
+pub decimal_lacks : (s n : ℕ) → s < 48 → n < 2 ^ 64 → LacksByte s (decimal n)
+decimal_lacks s n low small k lt e = let d = digits_decimal own n small k lt in omega arith

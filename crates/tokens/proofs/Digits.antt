@@ -7,6 +7,8 @@ use Rattle.tokens.specs.declared.fault.Fault.{Fault}
 use Rattle.tokens.specs.declared.fault.Fault.TheVariants.{Memory, Shape, Key, Digit, Half, Number, Long, Text}
 use Rattle.tokens.specs.Bytes.{is_hex, two_digits, spelled, shown_bytes, Bytes, NoBytes, NoDigit, BadBytes, BadByte}
 use Rattle.tokens.specs.Columns.{ahead}
+use Rattle.tokens.specs.Words.{Plain}
+use Rattle.tokens.proofs.Blanks.{lacks_told}
 
 -- columns add up
 pub ahead_ahead : (c m n : ℕ) → ahead (ahead c m) n ≡ ahead c (m + n)
@@ -132,3 +134,8 @@ some_shown t (b ∷ bs) some e = e
 pub refuted : {T : Type 0} (items : T → List ℕ) (r : Result T Fault) (c : ℕ) (t : List ℕ) → MatchResult r (λ v. t ≡ spelled (items v)) (λ f. BadBytes f c t) → (t ≡ [] → ⊥) → (t ≡ 45 ∷ [] → ⊥) → MatchResult r (λ v. t ≡ shown_bytes (items v)) (λ f. (f ≡ Memory) ⊎ NoBytes t)
 refuted items (Ok v) c t h some no_dash = some_shown t (items v) some h
 refuted items (Err f) c t h some no_dash = ⊎_elim (λ m. inl m) (λ none. inr (not_shown t no_dash none)) (refutes f c t h)
+
+-- bytes as text are one word
+pub plain_shown : (bs : List ℕ) → Bytes bs → Plain (shown_bytes bs)
+plain_shown [] ok = (omega arith, λ k lt e. lacks_told (45 ∷ []) refl k lt e)
+plain_shown (b ∷ bs) ok = (omega arith, λ k lt e. true≢false (sym (all_hex (b ∷ bs) ok k lt) ∙ ap is_hex e))

@@ -70,10 +70,19 @@ pub fn byte(piece: Piece<'_>) -> Result<u8, Fault>
     }
 }
 
+/// The character of a hex digit.
+fn digit_of(value: u8) -> char
+    requires { value < 16 }
+    ensures { result ≡ digit_char value }
+{
+    char::from_digit(u32::from(value), 16).unwrap()
+}
+
 /// Writes the two digits of a byte behind the text.
-#[tactic(auto, using(std::proofs::lemmas::Fmt::hex_byte))]
+// By `write!(text, "{b:02x}")` each byte goes through a formatter, which takes several times as long.
 pub fn write_byte(text: &mut String, b: u8) -> Result<(), AllocError>
     ensures { OnOk result (string_bytes text.new ≡ string_bytes text.old ++ two_digits b) }
 {
-    write!(text, "{b:02x}")
+    text.push(digit_of(b / 16))?;
+    text.push(digit_of(b % 16))
 }
